@@ -1,0 +1,15 @@
+-- The first number, from a given one on, that has a property.
+use Prim.Native.Nat.{ℕ, zero, suc, _+_}
+use mathlib.Core.Bool.{Bool, true, false}
+use Rattle.search.specs.declared.Found.{Found}
+use Rattle.search.specs.declared.Found.the-variants.{At, Nothing}
+
+-- p, where the test at p holds, and the rest of the search where it does not
+unfoldable pub foundOr : Bool → ℕ → Found → Found
+foundOr true p rest = At p
+foundOr false p rest = rest
+
+-- the first of the n numbers from p on at which f holds
+unfoldable pub firstOf : (ℕ → Bool) → ℕ → ℕ → Found
+firstOf f zero p = Nothing
+firstOf f (suc n) p = let rest = firstOf f n (p + 1) in foundOr (f p) p rest
