@@ -13,3 +13,8 @@ foundOr false p rest = rest
 unfoldable pub firstOf : (ℕ → Bool) → ℕ → ℕ → Found
 firstOf f zero p = Nothing
 firstOf f (suc n) p = let rest = firstOf f n (p + 1) in foundOr (f p) p rest
+
+-- whether a search found something
+unfoldable pub isFound : Found → Bool
+isFound (At p) = true
+isFound Nothing = false

@@ -1,0 +1,83 @@
+-- `layout::read_contents` goes on after each part that is not refused, as its definition does.
+use native.Mathlib.Omega.{arith}
+use borrow.Author.Needs.{needs}
+use mathlib.Core.Path.{sym, _∙_, ap₂}
+use Prim.Native.Nat.{_+_, _*_, ℕ}
+use mathlib.Core.List.{List}
+use Rattle.layout.specs.ContentsLaws.{contents-head, contents-plan, contents-entries, head-accepted}
+use Rattle.search.specs.First.{firstOf}
+use Rattle.layout.specs.Contents.{entriesFrom, faultyByte}
+use Rattle.layout.specs.File.{noEntries}
+use denote.Ref.{now}
+use Rattle.layout.proofs.read_contents.Statement.{statement}
+use Rattle.layout.proofs.read_contents.Tie as tie
+
+head-requires : tie.Need-head-requires
+head-requires c κs = search needs
+
+enum-known-verdict : tie.Need-enum-known-verdict
+enum-known-verdict c = search needs
+
+refused-at-requires : tie.Need-refused-at-requires
+refused-at-requires c κs = search needs
+
+returns : tie.Need-returns
+returns c = c .refused-at .ensures ∙ contents-head _ _ _ (sym (c .before .before .verdict .given .1) ∙ c .before .before .before .before .head .ensures)
+
+enum-told : tie.Need-enum-told
+enum-told c = search needs
+
+number-at-requires : tie.Need-number-at-requires
+number-at-requires c κs = search needs
+
+wide-requires : tie.Need-wide-requires
+wide-requires c κs = search needs
+
+plan-of-requires : tie.Need-plan-of-requires
+plan-of-requires c κs = search needs
+
+first-faulty-requires : tie.Need-first-faulty-requires
+first-faulty-requires c κs = search needs
+
+enum-known-f : tie.Need-enum-known-f
+enum-known-f c = search needs
+
+refused-at-requires-2 : tie.Need-refused-at-requires-2
+refused-at-requires-2 c κs = search needs
+
+returns-2 : tie.Need-returns-2
+returns-2 c = c .refused-at2 .ensures
+    ∙ contents-plan _ _ (sym (c .before .before .before .before .before .before .before .before .enum-told .given .1) ∙ c .before .before .before .before .before .before .before .before .before .before .head .ensures) (sym (c .before .before .f .given .1) ∙ c .before .before .before .before .first-faulty .ensures ∙ ap₂ (λ (plan : List ℕ) (k : ℕ). firstOf (faultyByte plan k) 8 0) (c .before .before .before .before .before .plan-of .ensures) (c .before .before .before .before .before .before .wide .ensures ∙ c .before .before .before .before .before .before .before .number-at .ensures))
+
+enum-told-2 : tie.Need-enum-told-2
+enum-told-2 c = search needs
+
+read-entries-requires : tie.Need-read-entries-requires
+read-entries-requires c κs = let h = head-accepted _ (sym (c .before .before .before .before .before .before .enum-told .given .1) ∙ c .before .before .before .before .before .before .before .before .head .ensures) in
+    let k = c .before .before .before .before .wide .ensures ∙ c .before .before .before .before .before .number-at .ensures in
+    (omega arith, omega arith, h .most)
+
+returns-3 : tie.Need-returns-3
+returns-3 c = c .read-entries .ensures
+    ∙ ap₂ (λ (plan : List ℕ) (k : ℕ). entriesFrom (now (c .before .before .before .before .before .before .before .before .before .before .before .args .s)) k plan k 0 (12 + 16 * k) noEntries) (c .before .before .before .before .plan-of .ensures) (c .before .before .before .before .before .wide .ensures ∙ c .before .before .before .before .before .before .number-at .ensures)
+    ∙ contents-entries _ (sym (c .before .before .before .before .before .before .before .enum-told .given .1) ∙ c .before .before .before .before .before .before .before .before .before .head .ensures) (sym (c .before .enum-told2 .given .1) ∙ c .before .before .before .first-faulty .ensures ∙ ap₂ (λ (plan : List ℕ) (k : ℕ). firstOf (faultyByte plan k) 8 0) (c .before .before .before .before .plan-of .ensures) (c .before .before .before .before .before .wide .ensures ∙ c .before .before .before .before .before .before .number-at .ensures))
+
+pub read-contents-spec : {M : Type 1} → statement M
+read-contents-spec =
+    tie.close
+    (tie.spec
+    head-requires
+    enum-known-verdict
+    refused-at-requires
+    returns
+    enum-told
+    number-at-requires
+    wide-requires
+    plan-of-requires
+    first-faulty-requires
+    enum-known-f
+    refused-at-requires-2
+    returns-2
+    enum-told-2
+    read-entries-requires
+    returns-3)
