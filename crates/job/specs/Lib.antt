@@ -1,3 +1,10 @@
 pub mod Read
 pub mod ReadLaws
 pub mod Given
+pub mod Order
+pub mod Outcome
+pub mod Query
+pub mod Front
+pub mod Inside
+pub mod Accepted
+pub mod Theorems

@@ -10,15 +10,15 @@ ghost use lib.ListN.{length, getD};
 ghost use lib.Dec.{eqb};
 ghost use Rattle.search.specs.First.{firstOf};
 ghost use Rattle.layout.specs.File.{tables, planOf, entryAt, bodySize, noEntries};
-ghost use Rattle.layout.specs.Contents.{headVerdict, faultyByte, judged, refusedAt, accepted, stopped, ending, entriesFrom, contentsOf};
+ghost use Rattle.layout.specs.Contents.{isOutside, headVerdict, faultyByte, judged, refusedAt, accepted, stopped, ending, entriesFrom, contentsOf};
 
 const LEAST_LENGTH: usize = 12;
 
 const MOST_LENGTH: usize = 65535;
 
-const MOST_TABLES: u32 = 8;
+const MOST_TABLES: usize = 8;
 
-const MOST_COLUMNS: u32 = 16;
+const MOST_COLUMNS: usize = 16;
 
 const MOST_ROWS: u32 = 4096;
 
@@ -98,24 +98,28 @@ fn byte_at(s: &[u8], i: usize) -> u8
     if i < s.len() { s[i] } else { 0 }
 }
 
+// Whether n is under least or over most.
+fn outside(n: usize, least: usize, most: usize) -> bool
+    ensures { λ r. ⌜ r ≡ isOutside n least most ⌝ }
+{
+    if n < least {
+        return true;
+    }
+    most < n
+}
+
 // Refusals 1 to 3.
 fn head(s: &[u8]) -> Verdict
     ensures { λ r. ⌜ r ≡ headVerdict (now (s .entry)) ⌝ }
 {
-    if s.len() < LEAST_LENGTH {
+    if outside(s.len(), LEAST_LENGTH, MOST_LENGTH) {
         return Verdict::Refused(Refusal::Length, 0);
     }
-    if MOST_LENGTH < s.len() {
-        return Verdict::Refused(Refusal::Length, 0);
-    }
-    let k = numbers::number_at(s, 0);
-    if k == 0 {
+    let k = wide(numbers::number_at(s, 0));
+    if outside(k, 1, MOST_TABLES) {
         return Verdict::Refused(Refusal::Tables, 0);
     }
-    if MOST_TABLES < k {
-        return Verdict::Refused(Refusal::Tables, 0);
-    }
-    if s.len() < 12 + 16 * wide(k) {
+    if s.len() < 12 + 16 * k {
         return Verdict::Refused(Refusal::Contents, 0);
     }
     Verdict::Accepted
@@ -195,17 +199,17 @@ fn judge(e: Entry, len: usize, end: usize) -> EntryRead
     requires { ⌜ end ≤ 65535 ⌝ }
     ensures { λ r. ⌜ r ≡ judged e len end ⌝ }
 {
+    let fields = e.fields;
+    let rows = e.rows;
     let ones = columns::count(e.mask);
-    if ones == 0 {
+    let misfit = outside(wide(ones), 1, MOST_COLUMNS);
+    if misfit {
         return EntryRead::Refused(Refusal::Mask);
     }
-    if MOST_COLUMNS < ones {
-        return EntryRead::Refused(Refusal::Mask);
-    }
-    if e.fields != ones {
+    if fields != ones {
         return EntryRead::Refused(Refusal::Fields);
     }
-    if MOST_ROWS < e.rows {
+    if MOST_ROWS < rows {
         return EntryRead::Refused(Refusal::Rows);
     }
     if wide(e.offset) != end {
@@ -302,7 +306,8 @@ fn read_entries(s: &[u8], k: usize, plan: [u8; 8]) -> Contents
             return stopped_at(read, i);
         };
         entries[i] = e;
-        end += body_size(e);
+        let size = body_size(e);
+        end += size;
         i += 1;
     }
     finish(s.len(), end, k, plan, entries)

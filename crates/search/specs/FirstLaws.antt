@@ -1,5 +1,5 @@
 -- What a search says of the number that it gives, in this order: one turn of it, for the proofs of loops; what is known of a number
--- that was found; what is known where nothing was found; and that a search looks at its property's values alone.
+-- that was found; what is known where nothing was found; that a search looks at its property's values alone; and `isFound`.
 use Prim.Native.Nat.{ℕ, zero, suc, _+_, _-_, _≤_, _<_}
 use mathlib.Core.Path.{_≡_, refl, sym, ap, ap₂, _∙_, subst}
 use mathlib.Core.Bool.{Bool, true, false}
@@ -8,7 +8,7 @@ use native.Mathlib.Omega.{arith}
 use native.Mathlib.Decide.{ℕ-discrete}
 use Rattle.search.specs.declared.Found.{Found}
 use Rattle.search.specs.declared.Found.the-variants.{At, Nothing}
-use Rattle.search.specs.First.{foundOr, firstOf}
+use Rattle.search.specs.First.{foundOr, firstOf, isFound}
 
 -- ---- one turn of a search that ends at `end`
 module _ (f : ℕ → Bool) (end p : ℕ) where
@@ -73,3 +73,14 @@ pub first-same : (f g : ℕ → Bool) (n from : ℕ) → ((q : ℕ) → f q ≡ 
 unfolding firstOf
 first-same f g zero from e = refl
 first-same f g (suc n) from e = rw (e from, first-same f g n (from + 1) e)
+
+-- ---- whether something was found
+pub found-at : (f : Found) → isFound f ≡ true → (p : ℕ) × (f ≡ At p)
+unfolding isFound
+found-at (At p) e = (p, refl)
+found-at Nothing e = let z : _≡_ {A = ℕ} 0 1 = cc in absurd (omega arith)
+
+pub found-not : (f : Found) → isFound f ≡ false → f ≡ Nothing
+unfolding isFound
+found-not (At p) e = let z : _≡_ {A = ℕ} 0 1 = cc in absurd (omega arith)
+found-not Nothing e = refl

@@ -1,51 +1,57 @@
 -- `layout::head` makes the tests of its definition in their order; each return cites the law of its outcome.
 use native.Mathlib.Omega.{arith}
 use borrow.Author.Needs.{needs}
-use Rattle.layout.specs.ContentsLaws.{head-short, head-long, head-no-table, head-many-tables, head-cut, head-kept}
+use mathlib.Core.Path.{sym, _∙_, ap}
+use Prim.Native.Nat.{ℕ}
+use Rattle.layout.specs.ContentsLaws.{head-length, head-tables, head-cut, head-kept, outside-false}
+use Rattle.layout.specs.Contents.{isOutside}
 use Rattle.layout.proofs.head.Statement.{statement}
 use Rattle.layout.proofs.head.Tie as tie
 
-returns : tie.Need-returns
-returns c = head-short _ (c .if1 .taken)
+outside-requires : tie.Need-outside-requires
+outside-requires c κs = search needs
 
-returns-2 : tie.Need-returns-2
-returns-2 c = head-long _ (c .if2 .taken)
+returns : tie.Need-returns
+returns c = head-length _ (sym (c .before .outside .ensures) ∙ c .if1 .taken)
 
 number-at-requires : tie.Need-number-at-requires
 number-at-requires c κs = search needs
 
-returns-3 : tie.Need-returns-3
-returns-3 c = head-no-table _ (omega arith) (omega arith) (omega arith)
-
-returns-4 : tie.Need-returns-4
-returns-4 c = head-many-tables _ (omega arith) (omega arith) (omega arith)
-
 wide-requires : tie.Need-wide-requires
 wide-requires c κs = search needs
 
-mul-if5 : tie.Need-mul-if5
-mul-if5 c = search needs
+outside-requires-2 : tie.Need-outside-requires-2
+outside-requires-2 c κs = search needs
 
-add-if5 : tie.Need-add-if5
-add-if5 c = search needs
+returns-2 : tie.Need-returns-2
+returns-2 c = let k = c .before .before .wide .ensures ∙ c .before .before .before .number-at .ensures in
+    head-tables _ (sym (c .before .before .before .before .before .outside .ensures) ∙ c .before .before .before .before .if1 .left) (ap (λ (n : ℕ). isOutside n 1 8) (sym k) ∙ sym (c .before .outside2 .ensures) ∙ c .if2 .taken)
 
-returns-5 : tie.Need-returns-5
-returns-5 c = head-cut _ (omega arith) (omega arith) (omega arith) (omega arith) (omega arith)
+mul-if3 : tie.Need-mul-if3
+mul-if3 c = let b = outside-false _ _ _ (sym (c .before .outside2 .ensures) ∙ c .if2 .left) in omega arith
 
-returns-6 : tie.Need-returns-6
-returns-6 c = head-kept _ (omega arith) (omega arith) (omega arith) (omega arith) (omega arith)
+add-if3 : tie.Need-add-if3
+add-if3 c = let b = outside-false _ _ _ (sym (c .before .outside2 .ensures) ∙ c .if2 .left) in omega arith
+
+returns-3 : tie.Need-returns-3
+returns-3 c = let k = c .before .before .before .wide .ensures ∙ c .before .before .before .before .number-at .ensures in
+    head-cut _ (sym (c .before .before .before .before .before .before .outside .ensures) ∙ c .before .before .before .before .before .if1 .left) (ap (λ (n : ℕ). isOutside n 1 8) (sym k) ∙ sym (c .before .before .outside2 .ensures) ∙ c .before .if2 .left) (omega arith)
+
+returns-4 : tie.Need-returns-4
+returns-4 c = let k = c .before .before .before .wide .ensures ∙ c .before .before .before .before .number-at .ensures in
+    head-kept _ (sym (c .before .before .before .before .before .before .outside .ensures) ∙ c .before .before .before .before .before .if1 .left) (ap (λ (n : ℕ). isOutside n 1 8) (sym k) ∙ sym (c .before .before .outside2 .ensures) ∙ c .before .if2 .left) (omega arith)
 
 pub head-spec : {M : Type 1} → statement M
 head-spec =
     tie.close
     (tie.spec
+    outside-requires
     returns
-    returns-2
     number-at-requires
-    returns-3
-    returns-4
     wide-requires
-    mul-if5
-    add-if5
-    returns-5
-    returns-6)
+    outside-requires-2
+    returns-2
+    mul-if3
+    add-if3
+    returns-3
+    returns-4)

@@ -1,55 +1,62 @@
 -- `layout::judge` makes the tests of its definition in their order; each return cites the law of its outcome.
 use native.Mathlib.Omega.{arith}
 use borrow.Author.Needs.{needs}
-use Rattle.layout.specs.ContentsLaws.{judged-no-column, judged-many-columns, judged-fields, judged-rows, judged-offset, judged-body, judged-kept}
+use mathlib.Core.Path.{sym, _∙_, ap}
+use Prim.Native.Nat.{ℕ}
+use Rattle.layout.specs.ContentsLaws.{outside-false, judged-columns, judged-fields, judged-rows, judged-offset, judged-body, judged-kept}
+use Rattle.layout.specs.Contents.{isOutside}
 use Rattle.layout.proofs.judge.Statement.{statement}
 use Rattle.layout.proofs.judge.Tie as tie
 
 count-requires : tie.Need-count-requires
 count-requires c κs = search needs
 
-returns : tie.Need-returns
-returns c = judged-no-column _ _ _ (omega arith)
-
-returns-2 : tie.Need-returns-2
-returns-2 c = judged-many-columns _ _ _ (omega arith)
-
-returns-3 : tie.Need-returns-3
-returns-3 c = judged-fields _ _ _ (omega arith) (omega arith) (omega arith)
-
-returns-4 : tie.Need-returns-4
-returns-4 c = judged-rows _ _ _ (omega arith) (omega arith) (omega arith) (omega arith)
-
 wide-requires : tie.Need-wide-requires
 wide-requires c κs = search needs
 
-returns-5 : tie.Need-returns-5
-returns-5 c = judged-offset _ _ _ (omega arith) (omega arith) (omega arith) (omega arith) (omega arith)
+outside-requires : tie.Need-outside-requires
+outside-requires c κs = search needs
+
+returns : tie.Need-returns
+returns c = judged-columns _ _ _ (ap (λ (n : ℕ). isOutside n 1 16) (sym (c .before .before .wide .ensures ∙ c .before .before .before .count .ensures)) ∙ sym (c .before .outside .ensures) ∙ c .if1 .taken)
+
+returns-2 : tie.Need-returns-2
+returns-2 c = judged-fields _ _ _ (ap (λ (n : ℕ). isOutside n 1 16) (sym (c .before .before .before .wide .ensures ∙ c .before .before .before .before .count .ensures)) ∙ sym (c .before .before .outside .ensures) ∙ c .before .if1 .left) (omega arith)
+
+returns-3 : tie.Need-returns-3
+returns-3 c = judged-rows _ _ _ (ap (λ (n : ℕ). isOutside n 1 16) (sym (c .before .before .before .before .wide .ensures ∙ c .before .before .before .before .before .count .ensures)) ∙ sym (c .before .before .before .outside .ensures) ∙ c .before .before .if1 .left) (omega arith) (omega arith)
+
+wide-requires-2 : tie.Need-wide-requires-2
+wide-requires-2 c κs = search needs
+
+returns-4 : tie.Need-returns-4
+returns-4 c = judged-offset _ _ _ (ap (λ (n : ℕ). isOutside n 1 16) (sym (c .before .before .before .before .before .before .wide .ensures ∙ c .before .before .before .before .before .before .before .count .ensures)) ∙ sym (c .before .before .before .before .before .outside .ensures) ∙ c .before .before .before .before .if1 .left) (omega arith) (omega arith) (omega arith)
 
 body-size-requires : tie.Need-body-size-requires
-body-size-requires c κs = search needs
+body-size-requires c κs = let b = outside-false _ _ _ (sym (c .before .before .before .before .before .outside .ensures) ∙ c .before .before .before .before .if1 .left) in (omega arith, omega arith)
 
-add-if6 : tie.Need-add-if6
-add-if6 c = search needs
+add-if5 : tie.Need-add-if5
+add-if5 c = search needs
+
+returns-5 : tie.Need-returns-5
+returns-5 c = judged-body _ _ _ (ap (λ (n : ℕ). isOutside n 1 16) (sym (c .before .before .before .before .before .before .before .before .wide .ensures ∙ c .before .before .before .before .before .before .before .before .before .count .ensures)) ∙ sym (c .before .before .before .before .before .before .before .outside .ensures) ∙ c .before .before .before .before .before .before .if1 .left) (omega arith) (omega arith) (omega arith) (omega arith)
 
 returns-6 : tie.Need-returns-6
-returns-6 c = judged-body _ _ _ (omega arith) (omega arith) (omega arith) (omega arith) (omega arith) (omega arith)
-
-returns-7 : tie.Need-returns-7
-returns-7 c = judged-kept _ _ _ (omega arith) (omega arith) (omega arith) (omega arith) (omega arith) (omega arith)
+returns-6 c = judged-kept _ _ _ (ap (λ (n : ℕ). isOutside n 1 16) (sym (c .before .before .before .before .before .before .before .before .wide .ensures ∙ c .before .before .before .before .before .before .before .before .before .count .ensures)) ∙ sym (c .before .before .before .before .before .before .before .outside .ensures) ∙ c .before .before .before .before .before .before .if1 .left) (omega arith) (omega arith) (omega arith) (omega arith)
 
 pub judge-spec : {M : Type 1} → statement M
 judge-spec =
     tie.close
     (tie.spec
     count-requires
+    wide-requires
+    outside-requires
     returns
     returns-2
     returns-3
+    wide-requires-2
     returns-4
-    wide-requires
-    returns-5
     body-size-requires
-    add-if6
-    returns-6
-    returns-7)
+    add-if5
+    returns-5
+    returns-6)
