@@ -8,6 +8,7 @@ use native.Mathlib.Omega.{arith}
 use native.Mathlib.Decide.{ℕ-discrete}
 use Rattle.search.specs.declared.Found.{Found}
 use Rattle.search.specs.declared.Found.the-variants.{At, Nothing}
+use Rattle.search.specs.Apart.{true-false, at-nothing, at-same}
 use Rattle.search.specs.First.{foundOr, firstOf, isFound}
 
 -- ---- one turn of a search that ends at `end`
@@ -31,12 +32,6 @@ pub record First (f : ℕ → Bool) (n from p : ℕ) : Type 0 where
   pub holds : f p ≡ true
   pub fails : (q : ℕ) → from ≤ q → q < p → f q ≡ false
 
-at-only : {p q : ℕ} → At p ≡ At q → p ≡ q
-at-only e = cc
-
-not-at : {p : ℕ} → Nothing ≡ At p → ⊥
-not-at e = let z : _≡_ {A = ℕ} 0 1 = cc in omega arith
-
 -- what holds from p + 1 on, and at p, holds from p on
 from-next : (P : ℕ → Type 0) (p end : ℕ) → P p → ((q : ℕ) → p + 1 ≤ q → q < end → P q) → (q : ℕ) → p ≤ q → q < end → P q
 from-next P p end a later q l u = pick (ℕ-discrete q p)
@@ -47,12 +42,12 @@ from-next P p end a later q l u = pick (ℕ-discrete q p)
 
 pub first-found : (f : ℕ → Bool) (n from p : ℕ) → firstOf f n from ≡ At p → First f n from p
 unfolding firstOf foundOr
-first-found f zero from p e = absurd (not-at e)
+first-found f zero from p e = absurd (at-nothing (sym e))
 first-found f (suc n) from p e = pick (f from) refl e (first-found f n (from + 1) p)
   where
     pick : (b : Bool) → f from ≡ b → foundOr b from (firstOf f n (from + 1)) ≡ At p → (firstOf f n (from + 1) ≡ At p → First f n (from + 1) p) → First f (suc n) from p
     pick true t g rec =
-        let s : from ≡ p = at-only g in
+        let s : from ≡ p = at-same g in
         record { low = omega arith; high = omega arith; holds = subst (λ (x : ℕ). f x ≡ true) s t; fails = λ q l u. absurd (omega arith) }
     pick false t g rec =
         let r = rec g in
@@ -65,7 +60,7 @@ first-nothing f zero from e q l u = absurd (omega arith)
 first-nothing f (suc n) from e q l u = pick (f from) refl e (first-nothing f n (from + 1))
   where
     pick : (b : Bool) → f from ≡ b → foundOr b from (firstOf f n (from + 1)) ≡ Nothing → (firstOf f n (from + 1) ≡ Nothing → (x : ℕ) → from + 1 ≤ x → x < from + 1 + n → f x ≡ false) → f q ≡ false
-    pick true t g rec = absurd (not-at (sym g))
+    pick true t g rec = absurd (at-nothing g)
     pick false t g rec = from-next (λ (x : ℕ). f x ≡ false) from (from + suc n) t (λ x a b. rec g x a (omega arith)) q l u
 
 -- ---- the same property, the same answer
@@ -78,9 +73,9 @@ first-same f g (suc n) from e = rw (e from, first-same f g n (from + 1) e)
 pub found-at : (f : Found) → isFound f ≡ true → (p : ℕ) × (f ≡ At p)
 unfolding isFound
 found-at (At p) e = (p, refl)
-found-at Nothing e = let z : _≡_ {A = ℕ} 0 1 = cc in absurd (omega arith)
+found-at Nothing e = absurd (true-false (sym e))
 
 pub found-not : (f : Found) → isFound f ≡ false → f ≡ Nothing
 unfolding isFound
-found-not (At p) e = let z : _≡_ {A = ℕ} 0 1 = cc in absurd (omega arith)
+found-not (At p) e = absurd (true-false e)
 found-not Nothing e = refl

@@ -21,28 +21,34 @@ returns : tie.Need-returns
 returns c = judged-columns _ _ _ (ap (λ (n : ℕ). isOutside n 1 16) (sym (c .before .before .wide .ensures ∙ c .before .before .before .count .ensures)) ∙ sym (c .before .outside .ensures) ∙ c .if1 .taken)
 
 returns-2 : tie.Need-returns-2
-returns-2 c = judged-fields _ _ _ (ap (λ (n : ℕ). isOutside n 1 16) (sym (c .before .before .before .wide .ensures ∙ c .before .before .before .before .count .ensures)) ∙ sym (c .before .before .outside .ensures) ∙ c .before .if1 .left) (omega arith)
+returns-2 c = let fit = outside-false _ _ _ (sym (c .before .before .outside .ensures) ∙ c .before .if1 .left) in
+    judged-fields _ _ _ (omega arith) (omega arith) (omega arith)
 
 returns-3 : tie.Need-returns-3
-returns-3 c = judged-rows _ _ _ (ap (λ (n : ℕ). isOutside n 1 16) (sym (c .before .before .before .before .wide .ensures ∙ c .before .before .before .before .before .count .ensures)) ∙ sym (c .before .before .before .outside .ensures) ∙ c .before .before .if1 .left) (omega arith) (omega arith)
+returns-3 c = let fit = outside-false _ _ _ (sym (c .before .before .before .outside .ensures) ∙ c .before .before .if1 .left) in
+    judged-rows _ _ _ (omega arith) (omega arith) (omega arith) (omega arith)
 
 wide-requires-2 : tie.Need-wide-requires-2
 wide-requires-2 c κs = search needs
 
 returns-4 : tie.Need-returns-4
-returns-4 c = judged-offset _ _ _ (ap (λ (n : ℕ). isOutside n 1 16) (sym (c .before .before .before .before .before .before .wide .ensures ∙ c .before .before .before .before .before .before .before .count .ensures)) ∙ sym (c .before .before .before .before .before .outside .ensures) ∙ c .before .before .before .before .if1 .left) (omega arith) (omega arith) (omega arith)
+returns-4 c = let fit = outside-false _ _ _ (sym (c .before .before .before .before .before .outside .ensures) ∙ c .before .before .before .before .if1 .left) in
+    judged-offset _ _ _ (omega arith) (omega arith) (omega arith) (omega arith) (omega arith)
 
 body-size-requires : tie.Need-body-size-requires
-body-size-requires c κs = let b = outside-false _ _ _ (sym (c .before .before .before .before .before .outside .ensures) ∙ c .before .before .before .before .if1 .left) in (omega arith, omega arith)
+body-size-requires c κs = let fit = outside-false _ _ _ (sym (c .before .before .before .before .before .outside .ensures) ∙ c .before .before .before .before .if1 .left) in
+    (omega arith, omega arith)
 
 add-if5 : tie.Need-add-if5
 add-if5 c = search needs
 
 returns-5 : tie.Need-returns-5
-returns-5 c = judged-body _ _ _ (ap (λ (n : ℕ). isOutside n 1 16) (sym (c .before .before .before .before .before .before .before .before .wide .ensures ∙ c .before .before .before .before .before .before .before .before .before .count .ensures)) ∙ sym (c .before .before .before .before .before .before .before .outside .ensures) ∙ c .before .before .before .before .before .before .if1 .left) (omega arith) (omega arith) (omega arith) (omega arith)
+returns-5 c = let fit = outside-false _ _ _ (sym (c .before .before .before .before .before .before .before .outside .ensures) ∙ c .before .before .before .before .before .before .if1 .left) in
+    judged-body _ _ _ (omega arith) (omega arith) (omega arith) (omega arith) (omega arith) (omega arith)
 
 returns-6 : tie.Need-returns-6
-returns-6 c = judged-kept _ _ _ (ap (λ (n : ℕ). isOutside n 1 16) (sym (c .before .before .before .before .before .before .before .before .wide .ensures ∙ c .before .before .before .before .before .before .before .before .before .count .ensures)) ∙ sym (c .before .before .before .before .before .before .before .outside .ensures) ∙ c .before .before .before .before .before .before .if1 .left) (omega arith) (omega arith) (omega arith) (omega arith)
+returns-6 c = let fit = outside-false _ _ _ (sym (c .before .before .before .before .before .before .before .outside .ensures) ∙ c .before .before .before .before .before .before .if1 .left) in
+    judged-kept _ _ _ (omega arith) (omega arith) (omega arith) (omega arith) (omega arith) (omega arith)
 
 pub judge-spec : {M : Type 1} → statement M
 judge-spec =
