@@ -8,8 +8,8 @@ use Prim.Native.Nat.{_≤_, _+_, _-_, _*_}
 use native.Mathlib.Nat.{sub-zero}
 use Rattle.layout.specs.ContentsLaws.{judged-right, entries-go, entries-stop, entries-end}
 use Rattle.layout.specs.Contents.{entriesFrom, stopped}
-use Rattle.layout.specs.declared.EntryRead.{EntryRead}
 use Rattle.layout.specs.File.{noEntries}
+use Rattle.layout.specs.declared.EntryRead.{EntryRead}
 use Rattle.layout.proofs.read_entries.Statement.{statement}
 use Rattle.layout.proofs.read_entries.Tie as tie
 
@@ -69,9 +69,8 @@ loop-less c = search needs
 
 loop-again : tie.Need-loop-again Inv-loop μ-loop
 loop-again c = let read = c .before .before .read .given .1 in
-    let r = judged-right _ _ _ _ (sym (c .before .before .before .before .read-entry .ensures) ∙ read) in
-    let end = c .body-size .ensures .0 in (
-      rw end (sym (entries-go _ _ _ _ _ _ _ (omega arith) (sym read ∙ c .before .before .before .before .read-entry .ensures)) ∙ c .before .before .before .before .before .before .loop .inv .0),
+    let r = judged-right _ _ _ _ (sym (c .before .before .before .before .read-entry .ensures) ∙ read) in (
+      sym (entries-go _ _ _ _ _ _ _ _ (c .body-size .ensures .0) (omega arith) (sym read ∙ c .before .before .before .before .read-entry .ensures)) ∙ c .before .before .before .before .before .before .loop .inv .0,
       omega arith,
       omega arith,
       simp length-set (c .before .before .before .before .before .before .loop .inv .3),
