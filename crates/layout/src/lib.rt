@@ -267,7 +267,8 @@ fn refused_at(r: Refusal, place: usize) -> Contents
     }
 }
 
-// The refusal of entry i, with its place.
+// The refusal of entry i, with its place. An entry that yields its numbers does not stop the reading, and
+// is never handed in; a match has to answer all the same.
 fn stopped_at(e: EntryRead, i: usize) -> Contents
     ensures { λ c. ⌜ c ≡ stopped e i ⌝ }
 {

@@ -1,7 +1,7 @@
 -- Numbers in a list of bytes (document 01, "The job file": "All numbers are little-endian", "Values are signed 32-bit, two's complement").
 use Prim.Native.Nat.{ℕ, _+_, _*_, _-_}
 use mathlib.Core.List.{List}
-use mathlib.Core.Bool.{Bool, true, false, cond}
+use mathlib.Core.Bool.{cond}
 use lib.ListN.{length, getD}
 use lib.Dec.{ltb, leb}
 use lib.IntN.{ℤ, pos, negsuc}

@@ -1,9 +1,8 @@
 -- What a search says of the number that it gives, in this order: one turn of it, for the proofs of loops; what is known of a number
 -- that was found; what is known where nothing was found; that a search looks at its property's values alone; and `isFound`.
 use Prim.Native.Nat.{ℕ, zero, suc, _+_, _-_, _≤_, _<_}
-use mathlib.Core.Path.{_≡_, refl, sym, ap, ap₂, _∙_, subst}
+use mathlib.Core.Path.{_≡_, refl, sym, subst}
 use mathlib.Core.Bool.{Bool, true, false}
-use mathlib.Core.Logic.{⊎-elim}
 use native.Mathlib.Omega.{arith}
 use native.Mathlib.Decide.{ℕ-discrete}
 use Rattle.search.specs.declared.Found.{Found}

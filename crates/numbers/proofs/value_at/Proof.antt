@@ -1,3 +1,4 @@
+-- `numbers::value_at` is the number at the place, read as signed.
 use mathlib.Core.Path.{_∙_, ap}
 use mir.Syntax.{w32}
 use mir.Facts.{toZ-ofZ}
@@ -6,20 +7,13 @@ use Rattle.numbers.specs.Numbers.{valueAt}
 use borrow.Author.Needs.{needs}
 use Rattle.numbers.proofs.value_at.Statement.{statement}
 use Rattle.numbers.proofs.value_at.Tie as tie
-use Rattle.numbers.proofs.value_at.Reads as reads
-use Rattle.numbers.proofs.value_at.Lts as lts
-use Rattle.numbers.proofs.as_signed.Reads as as-signed-reads
-use Rattle.numbers.proofs.number_at.Reads as number-at-reads
 
--- src/lib.rt:52:15
 number-at-requires : tie.Need-number-at-requires
 number-at-requires c κs = search needs
 
--- src/lib.rt:52:5
 as-signed-requires : tie.Need-as-signed-requires
 as-signed-requires c κs = search needs
 
--- src/lib.rt:49:1
 returns : tie.Need-returns
 unfolding valueAt
 returns c = toZ-ofZ {w = w32} (record { sfits = c .as-signed .ok }) ∙ c .as-signed .ensures ∙ ap signed (c .before .number-at .ensures)
