@@ -117,6 +117,21 @@ pub fn job_v() -> Vec<u8> {
     job(&[0, 1, 2, 3], &tables_v())
 }
 
+/// Document 01's P7: one table, mask 1, rows (7) (7).
+pub fn job_p7() -> Vec<u8> {
+    job(&[0], &[Table::new(1, &[&[7], &[7]])])
+}
+
+/// Document 01's P8: one empty table, 28 bytes.
+pub fn job_p8() -> Vec<u8> {
+    job(&[0], &[Table::new(1, &[])])
+}
+
+/// Document 01's P9: masks 1 and 2, rows 2 and 0, plan 0 1.
+pub fn job_p9() -> Vec<u8> {
+    job(&[0, 1], &[Table::filled(1, 2), Table::filled(2, 0)])
+}
+
 #[cfg(test)]
 mod tests {
     use super::*;

@@ -1,2 +1,4 @@
 pub mod Reading
 pub mod Examples
+pub mod Running
+pub mod Joining

@@ -10,7 +10,7 @@ ghost use mathlib.Core.Path.{_≡_};
 ghost use Prim.Native.Nat.{_<_};
 ghost use lib.ListN.{getD};
 ghost use Rattle.layout.specs.File.{noEntry};
-ghost use Rattle.job.specs.Read.{planMasks, refusedWith, acceptedWith, readAnswer};
+ghost use Rattle.job.specs.Read.{planMasks, refusedWith, readAnswer};
 
 // An accepted job. Entries and plan bytes from k on are 0; so are the root's place among the parents
 // and those from k on.

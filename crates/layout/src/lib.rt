@@ -9,8 +9,8 @@ ghost use Prim.Native.Nat.{_+_, _*_, _-_, _≤_, _<_};
 ghost use lib.ListN.{length, getD};
 ghost use lib.Dec.{eqb};
 ghost use Rattle.search.specs.First.{firstOf};
-ghost use Rattle.layout.specs.File.{tables, planOf, entryAt, bodySize, noEntries};
-ghost use Rattle.layout.specs.Contents.{isOutside, headVerdict, faultyByte, judged, refusedAt, accepted, stopped, ending, entriesFrom, contentsOf};
+ghost use Rattle.layout.specs.File.{planOf, entryAt, bodySize, noEntries};
+ghost use Rattle.layout.specs.Contents.{isOutside, headVerdict, faultyByte, judged, refusedAt, stopped, ending, entriesFrom, contentsOf};
 
 const LEAST_LENGTH: usize = 12;
 
@@ -91,13 +91,6 @@ fn wide(x: u32) -> usize
     x as usize
 }
 
-// The byte at a place: 0 past the end.
-fn byte_at(s: &[u8], i: usize) -> u8
-    ensures { λ r. ⌜ r ≡ getD (now (s .entry)) i 0 ⌝ }
-{
-    if i < s.len() { s[i] } else { 0 }
-}
-
 // Whether n is under least or over most.
 fn outside(n: usize, least: usize, most: usize) -> bool
     ensures { λ r. ⌜ r ≡ isOutside n least most ⌝ }
@@ -130,14 +123,14 @@ fn plan_of(s: &[u8]) -> [u8; 8]
     ensures { λ r. ⌜ r ≡ planOf (now (s .entry)) ⌝ }
 {
     [
-        byte_at(s, 4),
-        byte_at(s, 5),
-        byte_at(s, 6),
-        byte_at(s, 7),
-        byte_at(s, 8),
-        byte_at(s, 9),
-        byte_at(s, 10),
-        byte_at(s, 11),
+        numbers::byte_at(s, 4),
+        numbers::byte_at(s, 5),
+        numbers::byte_at(s, 6),
+        numbers::byte_at(s, 7),
+        numbers::byte_at(s, 8),
+        numbers::byte_at(s, 9),
+        numbers::byte_at(s, 10),
+        numbers::byte_at(s, 11),
     ]
 }
 

@@ -1,10 +1,26 @@
 // Bytes become numbers (document 01, "The job file"): four bytes, lowest first, are an unsigned
-// 32-bit number, and with two's complement a signed value. Both are total: where the four bytes run
-// past the end, the number is 0, so that no caller has to check first.
+// 32-bit number, and with two's complement a signed value. All are total: where bytes run past the
+// end, the number is 0, and nothing is written there, so that no caller has to check first.
 ghost use mathlib.Core.Path.{_≡_};
 ghost use Prim.Native.Nat.{_+_, _≤_, _<_};
-ghost use lib.ListN.{length};
+ghost use lib.ListN.{length, getD, set};
 ghost use Rattle.numbers.specs.Numbers.{fourBytes, numberAt, signed, valueAt};
+
+// The byte at a place: 0 past the end.
+pub fn byte_at(s: &[u8], at: usize) -> u8
+    ensures { λ r. ⌜ r ≡ getD (now (s .entry)) at 0 ⌝ }
+{
+    if at < s.len() { s[at] } else { 0 }
+}
+
+// A byte is written at a place: nothing past the end.
+pub fn put_byte(s: &mut [u8], at: usize, b: u8)
+    ensures { λ _. ⌜ now (s .exit) ≡ set (now (s .entry)) at b ⌝ }
+{
+    if at < s.len() {
+        s[at] = b;
+    }
+}
 
 fn wide(x: u8) -> u32
     ensures { λ r. ⌜ (r ≡ x) × (r < 256) ⌝ }

@@ -3,34 +3,22 @@
 // and lowest first, then the label, at most 200 bytes, then the file, at most 70,000.
 use libc::STDIN_FILENO;
 use libc::STDOUT_FILENO;
-ghost use Rattle.io.specs.Counts.{Counts};
 
 const MOST_LABEL: usize = 200;
 
 const MOST_FILE: usize = 70000;
 
-// Reads the next bytes of the input to the start of buf, as many as asked for, or fewer where the input
-// ends first, and answers how many came. It reads none where buf has not room for as many.
-fn take(buf: &mut [u8], length: usize) -> usize
-    ensures { λ r. ⌜ Counts r (now (buf .exit)) ⌝ }
-{
-    if buf.len() < length {
-        return 0;
-    }
-    io::read_full(STDIN_FILENO, &mut buf[..length])
-}
-
 // Prints the label, whose bytes come next.
 fn print_label(length: usize) {
     let mut label = [0u8; MOST_LABEL];
-    let n = take(&mut label, length);
+    let n = frames::take(&mut label, length);
     io::write_all(STDOUT_FILENO, &label[..n]);
 }
 
 // Prints what reading the file answers, whose bytes come next.
 fn print_file(length: usize) {
     let mut file = [0u8; MOST_FILE];
-    let n = take(&mut file, length);
+    let n = frames::take(&mut file, length);
     show::print_reading(job::read(&file[..n]));
 }
 

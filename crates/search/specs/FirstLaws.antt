@@ -39,6 +39,14 @@ from-next P p end a later q l u = pick (ℕ-discrete q p)
     pick (yes e) = subst P (sym e) a
     pick (no d) = later q (omega arith) u
 
+-- and what holds below p, and at p, holds below p + 1
+pub below-next : (P : ℕ → Type 0) (p : ℕ) → ((q : ℕ) → q < p → P q) → P p → (q : ℕ) → q < p + 1 → P q
+below-next P p before a q u = pick (ℕ-discrete q p)
+  where
+    pick : Dec (q ≡ p) → P q
+    pick (yes e) = subst P (sym e) a
+    pick (no d) = before q (omega arith)
+
 pub first-found : (f : ℕ → Bool) (n from p : ℕ) → firstOf f n from ≡ At p → First f n from p
 unfolding firstOf foundOr
 first-found f zero from p e = absurd (at-nothing (sym e))

@@ -1,4 +1,3 @@
 pub mod Apart
 pub mod First
 pub mod FirstLaws
-pub mod Filled

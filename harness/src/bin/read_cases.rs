@@ -9,22 +9,17 @@
 //! without stopping at the first.
 
 use std::collections::BTreeSet;
-use std::path::Path;
-use std::{env, fs};
 
 use korrigwen_harness::build::{
     entry_at, job, job_v, job_w, set_u32, tables_v, tables_w, Table, FIELDS, MASK, OFFSET, ROWS,
 };
+use korrigwen_harness::files::{two_paths, write_both};
 use korrigwen_harness::reader::{read, Job, Refusal};
 
 const MOST: u32 = u32::MAX;
 
 fn main() {
-    let paths: Vec<String> = env::args().skip(1).collect();
-    assert!(
-        paths.len() == 2,
-        "two arguments: the input file and the output file"
-    );
+    let paths = two_paths();
 
     let mut cases = Cases::default();
     lengths(&mut cases);
@@ -46,12 +41,7 @@ fn main() {
         cases.input.len() < 2_000_000,
         "the input is kept below 2 MB"
     );
-    for (path, bytes) in paths.iter().zip([&cases.input, &cases.output]) {
-        if let Some(folder) = Path::new(path).parent() {
-            fs::create_dir_all(folder).expect("make the folder");
-        }
-        fs::write(path, bytes).expect("write the cases");
-    }
+    write_both(&paths, &cases.input, &cases.output);
     println!(
         "{} cases, input {} bytes, output {} bytes",
         cases.labels.len(),

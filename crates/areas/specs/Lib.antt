@@ -1,0 +1,3 @@
+pub mod Filled
+pub mod Copied
+pub mod Written

@@ -1,0 +1,7 @@
+pub mod Run
+pub mod RunLaws
+pub mod Tests
+pub mod Procedure
+pub mod Trace
+pub mod Theorems
+pub mod Pause

@@ -1,0 +1,5 @@
+pub mod Words
+pub mod Text
+pub mod DecimalLaws
+pub mod TableLaws
+pub mod LineLaws
