@@ -1,5 +1,6 @@
-//! A plain-Rust second opinion on document 01, written from the document
-//! alone: a reader of job files, the natural join by nested loops, a model of
+//! A plain-Rust second opinion on document 01, written without a look at the
+//! crates' code, from the document and the readings that docs/DECISIONS.md
+//! settles: a reader of job files, the natural join by nested loops, a model of
 //! the steps of a run, the program's output, and functions that build job
 //! files for tests.
 

@@ -1,4 +1,4 @@
-//! A reader of job files, written from document 01 alone. The checks stand in
+//! A reader of job files, written without a look at the crates' code. The checks stand in
 //! the document's order; each names the sentence it follows. All arithmetic on
 //! numbers from the file is 64-bit, so that nothing wraps.
 
