@@ -44,12 +44,7 @@ fn least(m: usize, n: usize) -> usize
 
 fn print_refused(r: Refusal, place: usize) {
     let mut out = [0u8; 100];
-    let n = text::put_refused(
-        narrow(show::number_of(r) as usize),
-        narrow(place),
-        &mut out,
-        0,
-    );
+    let n = text::put_refused(layout::number_of(r), narrow(place), &mut out, 0);
     io::write_all(STDOUT_FILENO, &out[..n]);
 }
 

@@ -9,6 +9,7 @@ ghost use Prim.Native.Nat.{_+_, _*_, _-_, _≤_, _<_};
 ghost use lib.ListN.{length, getD};
 ghost use lib.Dec.{eqb};
 ghost use Rattle.search.specs.First.{firstOf};
+ghost use Rattle.layout.specs.Numbers.{numberOf};
 ghost use Rattle.layout.specs.File.{planOf, entryAt, bodySize, noEntries};
 ghost use Rattle.layout.specs.Contents.{isOutside, headVerdict, faultyByte, judged, refusedAt, stopped, ending, entriesFrom, contentsOf};
 
@@ -62,7 +63,31 @@ pub enum Verdict {
     Refused(Refusal, usize),
 }
 
-// The four numbers of a contents entry.
+// The number of a refusal in document 01's table.
+pub fn number_of(r: Refusal) -> u32
+    ensures { λ n. ⌜ n ≡ numberOf r ⌝ }
+{
+    match r {
+        Refusal::Length => 1,
+        Refusal::Tables => 2,
+        Refusal::Contents => 3,
+        Refusal::Plan => 4,
+        Refusal::Mask => 5,
+        Refusal::Fields => 6,
+        Refusal::Rows => 7,
+        Refusal::Offset => 8,
+        Refusal::Body => 9,
+        Refusal::Trailing => 10,
+        Refusal::Ear => 11,
+        Refusal::MarkArea => 12,
+        Refusal::State => 13,
+        Refusal::Record => 14,
+        Refusal::ValueArea => 15,
+    }
+}
+
+// The four numbers of a contents entry, as other languages see them too.
+#[repr(C)]
 pub struct Entry {
     pub fields: u32,
     pub rows: u32,

@@ -1,6 +1,7 @@
 // Bytes become numbers (document 01, "The job file"): four bytes, lowest first, are an unsigned
-// 32-bit number, and with two's complement a signed value. All are total: where bytes run past the
-// end, the number is 0, and nothing is written there, so that no caller has to check first.
+// 32-bit number, and with two's complement a signed value. Where bytes run past the end, the number is 0,
+// and nothing is written there, so that no caller has to check first; `value_there` alone asks for bytes
+// that are there, and saves a search the test for each row.
 ghost use mathlib.Core.Path.{_≡_};
 ghost use Prim.Native.Nat.{_+_, _≤_, _<_};
 ghost use lib.ListN.{length, getD, set};
@@ -66,4 +67,12 @@ pub fn value_at(s: &[u8], at: usize) -> i32
     ensures { λ r. ⌜ r ≡ valueAt (now (s .entry)) at ⌝ }
 {
     as_signed(number_at(s, at))
+}
+
+// The value at a place whose four bytes are there.
+pub fn value_there(s: &[u8], at: usize) -> i32
+    requires { ⌜ at + 4 ≤ length (now s) ⌝ }
+    ensures { λ r. ⌜ r ≡ valueAt (now (s .entry)) at ⌝ }
+{
+    as_signed(four_bytes(s, at))
 }

@@ -160,7 +160,7 @@ fn put_refusal(word: &[u8], r: Refusal, place: usize, out: &mut [u8], at: usize)
     ensures { λ r. ⌜ r ≤ length (now (out .entry)) ⌝ }
 {
     let a = put_word(word, out, at);
-    let b = put_number(narrow(show::number_of(r)), out, a);
+    let b = put_number(layout::number_of(r), out, a);
     let c = put_word(b" at", out, b);
     put_number(narrow(place as u64), out, c)
 }

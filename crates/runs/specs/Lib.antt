@@ -1,5 +1,6 @@
 pub mod Run
 pub mod RunLaws
+pub mod SweepLaws
 pub mod Tests
 pub mod Procedure
 pub mod Trace

@@ -7,31 +7,6 @@ use layout::Entry;
 use layout::Refusal;
 use layout::Verdict;
 use libc::STDOUT_FILENO;
-ghost use mathlib.Core.Path.{_≡_};
-ghost use Rattle.layout.specs.Numbers.{numberOf};
-
-// The number of a refusal in document 01's table.
-pub fn number_of(r: Refusal) -> u64
-    ensures { λ n. ⌜ n ≡ numberOf r ⌝ }
-{
-    match r {
-        Refusal::Length => 1,
-        Refusal::Tables => 2,
-        Refusal::Contents => 3,
-        Refusal::Plan => 4,
-        Refusal::Mask => 5,
-        Refusal::Fields => 6,
-        Refusal::Rows => 7,
-        Refusal::Offset => 8,
-        Refusal::Body => 9,
-        Refusal::Trailing => 10,
-        Refusal::Ear => 11,
-        Refusal::MarkArea => 12,
-        Refusal::State => 13,
-        Refusal::Record => 14,
-        Refusal::ValueArea => 15,
-    }
-}
 
 // A word as it stands.
 fn word(text: &[u8]) {
@@ -47,7 +22,7 @@ fn number(n: u64) {
 // `refused N at P`.
 fn print_refusal(r: Refusal, place: usize) {
     word(b"refused");
-    number(number_of(r));
+    number(layout::number_of(r) as u64);
     word(b" at");
     number(place as u64);
 }

@@ -13,9 +13,6 @@ number-of-requires c κs = search needs
 narrow-requires : tie.Need-narrow-requires
 narrow-requires c κs = search needs
 
-narrow-requires-2 : tie.Need-narrow-requires-2
-narrow-requires-2 c κs = search needs
-
 slice-aggregate-put-refused : tie.Need-slice-aggregate-put-refused
 slice-aggregate-put-refused c = search needs
 
@@ -40,7 +37,6 @@ print-refused-spec =
     (tie.spec
     number-of-requires
     narrow-requires
-    narrow-requires-2
     slice-aggregate-put-refused
     put-refused-requires
     array-share-prefix-out
