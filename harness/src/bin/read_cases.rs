@@ -1,8 +1,8 @@
 //! Writes the cases for reading: the input frames to the file named first, the
 //! expected output lines to the file named second.
 //!
-//! A frame is the label's length and the file's length (4 bytes each,
-//! little-endian), the label, the file. Each frame has one line of output.
+//! A frame is a label and a file (`frames`). Each frame has one line of output
+//! (`lines`).
 //!
 //! Most cases state their answer here by hand; the reader must agree. Every
 //! case is also held against `standing`, a list of all faults found in a file
@@ -13,7 +13,10 @@ use std::collections::BTreeSet;
 use korrigwen_harness::build::{
     entry_at, job, job_v, job_w, set_u32, tables_v, tables_w, Table, FIELDS, MASK, OFFSET, ROWS,
 };
+use korrigwen_harness::faults::standing;
 use korrigwen_harness::files::{two_paths, write_both};
+use korrigwen_harness::frames::put_read_frame;
+use korrigwen_harness::lines::{parents_spoken, read_line};
 use korrigwen_harness::reader::{read, Job, Refusal};
 
 const MOST: u32 = u32::MAX;
@@ -65,13 +68,6 @@ impl Cases {
     /// Adds a case whose answer is the reader's.
     fn told(&mut self, label: &str, file: &[u8]) -> Result<Job, Refusal> {
         assert!(
-            label.len() <= 200
-                && label
-                    .bytes()
-                    .all(|b| b == b' ' || b.is_ascii_alphanumeric())
-        );
-        assert!(file.len() <= 70_000, "{label}");
-        assert!(
             self.labels.insert(label.to_string()),
             "label twice: {label}"
         );
@@ -90,12 +86,8 @@ impl Cases {
             }
         }
 
-        self.input.extend((label.len() as u32).to_le_bytes());
-        self.input.extend((file.len() as u32).to_le_bytes());
-        self.input.extend(label.as_bytes());
-        self.input.extend(file);
-        self.output
-            .extend(format!("{label}: {}\n", spoken(&answer)).as_bytes());
+        put_read_frame(label, file, &mut self.input);
+        self.output.extend(read_line(label, &answer).as_bytes());
         answer
     }
 
@@ -131,106 +123,6 @@ impl Cases {
             }
         }
     }
-}
-
-/// The answer as the output line has it.
-fn spoken(answer: &Result<Job, Refusal>) -> String {
-    let job = match answer {
-        Err(Refusal { number, place }) => return format!("refused {number} at {place}"),
-        Ok(job) => job,
-    };
-    let mut line = format!("accepted tables {} plan", job.k);
-    for table in &job.plan {
-        line += &format!(" {table}");
-    }
-    for entry in &job.entries {
-        line += &format!(
-            " entry {} {} {} {}",
-            entry.fields, entry.rows, entry.mask, entry.offset
-        );
-    }
-    line + " parents " + &parents_spoken(job)
-}
-
-fn parents_spoken(job: &Job) -> String {
-    let words: Vec<String> = job
-        .parents
-        .iter()
-        .map(|parent| parent.map_or("none".to_string(), |p| p.to_string()))
-        .collect();
-    words.join(" ")
-}
-
-/// All faults of a file as (number, place), in document 01's order, without
-/// stopping at the first. What a fault leaves readable is read on: with k over
-/// 8 the first 9 entries are looked at, in a short file those that are whole.
-fn standing(file: &[u8]) -> Vec<(u32, u32)> {
-    let number = |at: usize| u32::from_le_bytes(file[at..at + 4].try_into().unwrap());
-    let length = file.len() as u64;
-    let mut faults = Vec::new();
-
-    if !(12..=65_535).contains(&length) {
-        faults.push((1, 0));
-    }
-    if length < 4 {
-        return faults;
-    }
-    let k = u64::from(number(0));
-    if !(1..=8).contains(&k) {
-        faults.push((2, 0));
-    }
-    if length < 12 + 16 * k {
-        faults.push((3, 0));
-    }
-    if length < 12 {
-        return faults;
-    }
-
-    let plan = &file[4..12];
-    let in_plan = k.min(8) as usize;
-    let faulty = |p: usize| match p < in_plan {
-        true => u64::from(plan[p]) >= k || plan[..p].contains(&plan[p]),
-        false => plan[p] != 0,
-    };
-    faults.extend((0..8).find(|&p| faulty(p)).map(|p| (4, p as u32)));
-
-    let whole = k.min(9).min((length - 12) / 16) as usize;
-    let mut masks = Vec::new();
-    let mut end = 12 + 16 * k;
-    for i in 0..whole {
-        let at = entry_at(i);
-        let mask = number(at + MASK);
-        let ones = mask.count_ones();
-        let rows = number(at + ROWS);
-        let start = end;
-        end += u64::from(ones) * u64::from(rows) * 4;
-        let here = [
-            (5, !(1..=16).contains(&ones)),
-            (6, number(at + FIELDS) != ones),
-            (7, rows > 4_096),
-            (8, u64::from(number(at + OFFSET)) != start),
-            (9, end > length),
-        ];
-        faults.extend(here.iter().filter(|f| f.1).map(|f| (f.0, i as u32)));
-        masks.push(mask);
-    }
-    if whole as u64 == k && end < length {
-        faults.push((10, 0));
-    }
-
-    let mut earlier: Vec<u32> = Vec::new();
-    for (p, &table) in plan[..in_plan].iter().enumerate() {
-        let Some(&mask) = masks.get(usize::from(table)) else {
-            break;
-        };
-        let keys = mask & earlier.iter().fold(0, |all, m| all | m);
-        if p > 0 && !earlier.iter().any(|m| keys & !m == 0) {
-            faults.push((11, p as u32));
-            break;
-        }
-        earlier.push(mask);
-    }
-    faults
 }
 
 // ---- making files ---------------------------------------------------------

@@ -2,11 +2,8 @@
 //! frames to the file named first, the expected output lines to the file named
 //! second.
 //!
-//! A frame is nine numbers (4 bytes each, little-endian): operation, label
-//! length, file length, marks length, count of state numbers, count of record
-//! numbers, budget, area length, values length; then the label, the file, the
-//! marks, the state numbers and the record numbers. Areas are lent with every
-//! place holding 4,294,967,295, value areas with every place holding -7.
+//! `frames` says what a frame is, `lines` what is printed. Areas are lent with
+//! every place holding 4,294,967,295, value areas with every place holding -7.
 //!
 //! The answers are the model's (`runner`, `join`). Where the document settles
 //! an answer at once it is stated here by hand too, and every walk that
@@ -19,8 +16,13 @@ use korrigwen_harness::build::{
     entry_at, job, job_p7, job_p8, job_p9, job_v, job_w, set_u32, tables_v, tables_w, Table,
     FIELDS, MASK, OFFSET, ROWS,
 };
+use korrigwen_harness::dice::Dice;
 use korrigwen_harness::files::{two_paths, write_both};
+use korrigwen_harness::frames::{
+    Frame, BEGIN, EMPTY, JOIN_VALUES, MOST_AREA as WIDEST, NO_VALUE, RUN, WALK,
+};
 use korrigwen_harness::join::{join_values, natural_join};
+use korrigwen_harness::lines::{begin_line, no_state_line, run_line, spoken, values_line};
 use korrigwen_harness::reader::{read, Job, Refusal};
 use korrigwen_harness::runner::{
     begin, fits, marked, run, total_rows, Kind, Reason, State, STEP_LIMIT,
@@ -28,20 +30,11 @@ use korrigwen_harness::runner::{
 
 const MOST: u32 = u32::MAX;
 
-/// What a place of a lent area holds.
-const EMPTY: u32 = u32::MAX;
-
-/// What a place of a lent value area holds.
-const NO_VALUE: i32 = -7;
-
 /// How many run calls a walk makes at most.
 const CALLS: usize = 200;
 
 /// A budget that none of the small jobs spends.
 const PLENTY: u32 = 100_000;
-
-/// The greatest area that is lent.
-const WIDEST: usize = 200;
 
 fn main() {
     let paths = two_paths();
@@ -85,20 +78,6 @@ fn main() {
 
 // ---- collecting -----------------------------------------------------------
 
-/// What one frame holds.
-#[derive(Clone, Copy, Default)]
-struct Frame<'a> {
-    op: u32,
-    label: &'a str,
-    file: &'a [u8],
-    marks: &'a [u8],
-    state: &'a [u32],
-    record: &'a [u32],
-    budget: u32,
-    area: usize,
-    values: usize,
-}
-
 /// What a run call left behind.
 #[derive(Clone, Debug, PartialEq, Eq)]
 struct Stop {
@@ -125,54 +104,23 @@ impl Cases {
     /// Adds a frame to the input.
     fn frame(&mut self, frame: Frame) {
         let Frame { label, .. } = frame;
-        let plain = |b: u8| b == b' ' || b.is_ascii_alphanumeric();
-        assert!(label.len() <= 200 && label.bytes().all(plain), "{label}");
-        assert!(frame.file.len() <= 70_000, "{label}");
-        assert!(frame.marks.len() <= 20_000, "{label}");
-        assert!(frame.state.len() <= 20, "{label}");
-        assert!(frame.record.len() <= 20, "{label}");
-        assert!(frame.area <= WIDEST && frame.values <= 64, "{label}");
         assert!(
             self.labels.insert(label.to_string()),
             "label twice: {label}"
         );
-
-        let header = [
-            frame.op,
-            label.len() as u32,
-            frame.file.len() as u32,
-            frame.marks.len() as u32,
-            frame.state.len() as u32,
-            frame.record.len() as u32,
-            frame.budget,
-            frame.area as u32,
-            frame.values as u32,
-        ];
-        self.input
-            .extend(header.iter().flat_map(|n| n.to_le_bytes()));
-        self.input.extend(label.as_bytes());
-        self.input.extend(frame.file);
-        self.input.extend(frame.marks);
-        let numbers = frame.state.iter().chain(frame.record);
-        self.input.extend(numbers.flat_map(|n| n.to_le_bytes()));
-    }
-
-    /// Adds a line to the output.
-    fn line(&mut self, label: &str, answer: &str) {
-        self.output
-            .extend(format!("{label}: {answer}\n").as_bytes());
+        frame.put(&mut self.input);
     }
 
     /// Adds a begin case.
     fn begin(&mut self, label: &str, file: &[u8], marks: &[u8]) -> Result<State, Refusal> {
         self.frame(Frame {
-            op: 1,
+            op: BEGIN,
             label,
             file,
             marks,
             ..Frame::default()
         });
-        self.begin_line(1, label, file, marks).0
+        self.begin_line(BEGIN, label, file, marks).0
     }
 
     /// Begins, adds the line, and gives the answer and the marks afterwards.
@@ -185,20 +133,19 @@ impl Cases {
     ) -> (Result<State, Refusal>, Vec<u8>) {
         let mut after = marks.to_vec();
         let answer = begin(file, &mut after);
-        let told = match &answer {
-            Ok(state) => {
+        match &answer {
+            Ok(_) => {
                 let rows = total_rows(&read(file).unwrap());
                 assert!(after[..rows].iter().all(|&mark| mark == 0), "{label}");
                 assert_eq!(after[rows..], marks[rows..], "{label}");
-                format!("state{}", spoken(&state.flat()))
             }
             Err(refusal) => {
                 assert_eq!(after, marks, "{label}");
                 self.refused.insert((op, refusal.number));
-                spoken_refusal(refusal)
             }
-        };
-        self.line(label, &format!("begin {told} marks{}", spoken(&after)));
+        }
+        self.output
+            .extend(begin_line(label, &answer, &after).as_bytes());
         (answer, after)
     }
 
@@ -213,7 +160,7 @@ impl Cases {
         area: usize,
     ) -> Result<Stop, Refusal> {
         self.frame(Frame {
-            op: 2,
+            op: RUN,
             label,
             file,
             marks,
@@ -238,7 +185,7 @@ impl Cases {
         let mut marks_after = marks.to_vec();
         let mut area_after = vec![EMPTY; area];
         let answer = run(file, state, &mut marks_after, budget, &mut area_after);
-        let told = match &answer {
+        match &answer {
             Ok((reason, next)) => {
                 check_call(
                     label,
@@ -251,23 +198,15 @@ impl Cases {
                     &area_after,
                 );
                 self.reasons.insert(reason.number());
-                format!("stopped {} state{}", reason.number(), spoken(&next.flat()))
             }
             Err(refusal) => {
                 assert_eq!(marks_after, marks, "{label}");
                 assert!(area_after.iter().all(|&place| place == EMPTY), "{label}");
-                self.refused.insert((2, refusal.number));
-                spoken_refusal(refusal)
+                self.refused.insert((RUN, refusal.number));
             }
-        };
-        self.line(
-            label,
-            &format!(
-                "run {told} marks{} area{}",
-                spoken(&marks_after),
-                spoken(&area_after)
-            ),
-        );
+        }
+        self.output
+            .extend(run_line(label, &answer, &marks_after, &area_after).as_bytes());
         answer.map(|(reason, state)| Stop {
             reason,
             state,
@@ -294,7 +233,7 @@ impl Cases {
     fn no_state(&mut self, label: &str, file: &[u8], numbers: &[u32], marks: &[u8]) {
         assert_eq!(State::from_flat(numbers), None, "{label}");
         self.frame(Frame {
-            op: 2,
+            op: RUN,
             label,
             file,
             marks,
@@ -303,7 +242,7 @@ impl Cases {
             area: 9,
             ..Frame::default()
         });
-        self.line(label, "run no state 13 at 0");
+        self.output.extend(no_state_line(label).as_bytes());
     }
 
     /// Adds a case for joining values.
@@ -315,7 +254,7 @@ impl Cases {
         values: usize,
     ) -> Result<Vec<i32>, Refusal> {
         self.frame(Frame {
-            op: 3,
+            op: JOIN_VALUES,
             label,
             file,
             record,
@@ -324,20 +263,19 @@ impl Cases {
         });
         let mut area = vec![NO_VALUE; values];
         let answer = join_values(file, record, &mut area);
-        let told = match &answer {
+        match &answer {
             Ok(count) => {
                 let job = read(file).unwrap();
                 assert_eq!(*count, distinct_columns(&job), "{label}");
                 assert!(area[*count..].iter().all(|&v| v == NO_VALUE), "{label}");
-                count.to_string()
             }
             Err(refusal) => {
                 assert!(area.iter().all(|&v| v == NO_VALUE), "{label}");
-                self.refused.insert((3, refusal.number));
-                spoken_refusal(refusal)
+                self.refused.insert((JOIN_VALUES, refusal.number));
             }
-        };
-        self.line(label, &format!("values {told} values{}", spoken(&area)));
+        }
+        self.output
+            .extend(values_line(label, &answer, &area).as_bytes());
         answer.map(|count| area[..count].to_vec())
     }
 
@@ -365,7 +303,7 @@ impl Cases {
         area: usize,
     ) -> Vec<Stop> {
         self.frame(Frame {
-            op: 4,
+            op: WALK,
             label,
             file,
             marks,
@@ -373,7 +311,7 @@ impl Cases {
             area,
             ..Frame::default()
         });
-        let (answer, mut marks) = self.begin_line(4, label, file, marks);
+        let (answer, mut marks) = self.begin_line(WALK, label, file, marks);
         let mut state = answer.expect("walked jobs are accepted");
         let mut calls: Vec<Stop> = Vec::new();
         while calls.len() < CALLS {
@@ -402,7 +340,7 @@ impl Cases {
     /// Adds a walk that is refused at its beginning.
     fn walk_refused(&mut self, label: &str, file: &[u8], marks: &[u8], refusal: (u32, u32)) {
         self.frame(Frame {
-            op: 4,
+            op: WALK,
             label,
             file,
             marks,
@@ -411,7 +349,7 @@ impl Cases {
             ..Frame::default()
         });
         let (number, place) = refusal;
-        let (answer, _) = self.begin_line(4, label, file, marks);
+        let (answer, _) = self.begin_line(WALK, label, file, marks);
         assert_eq!(answer, Err(Refusal { number, place }), "{label}");
     }
 
@@ -443,18 +381,6 @@ impl Cases {
         }
         assert_eq!(self.reasons.len(), 4);
     }
-}
-
-/// Numbers for a line, a space before each.
-fn spoken<T: ToString>(numbers: &[T]) -> String {
-    numbers
-        .iter()
-        .map(|number| format!(" {}", number.to_string()))
-        .collect()
-}
-
-fn spoken_refusal(refusal: &Refusal) -> String {
-    format!("refused {} at {}", refusal.number, refusal.place)
 }
 
 fn distinct_columns(job: &Job) -> usize {
@@ -675,42 +601,6 @@ fn apart() -> Vec<Table> {
 /// Two tables of so many rows without a shared column.
 fn two_apart(first: usize, second: usize) -> Vec<u8> {
     straight(&[Table::filled(1, first), Table::filled(2, second)])
-}
-
-/// A small source of numbers that are the same every time.
-struct Dice(u64);
-
-impl Dice {
-    fn next(&mut self) -> u64 {
-        self.0 ^= self.0 << 13;
-        self.0 ^= self.0 >> 7;
-        self.0 ^= self.0 << 17;
-        self.0
-    }
-
-    /// A number below `n`.
-    fn below(&mut self, n: usize) -> usize {
-        ((self.next() >> 20) % n as u64) as usize
-    }
-
-    /// One of these.
-    fn one<T: Copy>(&mut self, of: &[T]) -> T {
-        of[self.below(of.len())]
-    }
-
-    /// The numbers below `k` in some order.
-    fn order(&mut self, k: usize) -> Vec<u8> {
-        let mut order = in_order(k);
-        for i in (1..k).rev() {
-            order.swap(i, self.below(i + 1));
-        }
-        order
-    }
-
-    /// So many bytes, about one in three not 0.
-    fn marks(&mut self, length: usize) -> Vec<u8> {
-        (0..length).map(|_| self.one(&[0, 0, 0, 0, 1, 7])).collect()
-    }
 }
 
 // ---- the cases: document 01's figures and every pause -----------------------
@@ -1692,7 +1582,7 @@ fn random_job(dice: &mut Dice, k: usize) -> Vec<u8> {
 /// Random accepted jobs, walked whole and with random pauses; and values of
 /// their records and of other choices.
 fn random_jobs(cases: &mut Cases) {
-    let mut dice = Dice(0x9e37_79b9_7f4a_7c15);
+    let mut dice = Dice::from(0x9e37_79b9_7f4a_7c15);
     for number in 0..150 {
         let k = 1 + (number + 4) % 5;
         let file = random_job(&mut dice, k);
@@ -1751,7 +1641,7 @@ fn random_state(dice: &mut Dice, file: &[u8]) -> State {
 /// Random states under random marks: fitting ones, and ones with a number
 /// changed.
 fn random_states(cases: &mut Cases) {
-    let mut dice = Dice(0x2545_f491_4f6c_dd1d);
+    let mut dice = Dice::from(0x2545_f491_4f6c_dd1d);
     for number in 0..200 {
         let k = 1 + (number + 4) % 5;
         let file = random_job(&mut dice, k);
