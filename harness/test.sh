@@ -1,7 +1,8 @@
 #!/usr/bin/env bash
 # harness/test.sh: the tests that need more than the kit. They use what `rt ci` or `rt check` built in target/: the
-# programs and, on x86-64, the library's archive, which is written here. On other processors the calls go through the
-# programs, in the kit's emulator. Exit 1 at the first test that fails.
+# programs and the library's archive, which is written here. On other processors than x86-64 the archive is the one that
+# archive.sh compiles from the same module, and some of the jobs go through the programs too, in the kit's emulator: all of
+# them would take half an hour. Exit 1 at the first test that fails.
 set -euo pipefail
 cd "$(dirname "$0")/.."
 
@@ -19,7 +20,10 @@ if [ "$(uname -m)" = x86_64 ]; then
     cargo test --quiet --release -p korrigwen-harness -p korrigwen
     cargo run --quiet --release --bin differential
 else
-    cargo test --quiet --release --no-default-features
-    cargo run --quiet --release --no-default-features --bin differential
+    ./archive.sh
+    export KORRIGWEN_ARCHIVE_DIR=$PWD/../target/here
+    cargo test --quiet --release -p korrigwen-harness -p korrigwen
+    cargo run --quiet --release --bin differential
+    cargo run --quiet --release --bin differential -- --through programs --jobs 5000
 fi
 ../examples/test.sh

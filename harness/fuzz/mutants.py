@@ -7,6 +7,7 @@ this says nothing about the library; it says how much of a wrong one the target 
 did not find, and then `mutants: F of N found`. Run harness/fuzz/build.sh first.
 """
 import pathlib
+import platform
 import re
 import shutil
 import subprocess
@@ -15,6 +16,7 @@ import sys
 TOP = pathlib.Path(__file__).resolve().parents[2]
 OUT = TOP / "target/fuzz"
 WORK = OUT / "mutant"
+MACHINE = platform.machine()
 OTHER = {"ult": "ule", "ule": "ult", "ugt": "uge", "uge": "ugt", "slt": "sle", "sle": "slt", "sgt": "sge",
          "sge": "sgt", "eq": "ne", "ne": "eq"}
 COMPARISON = re.compile(r"(= icmp )(\w+)( )")
@@ -23,7 +25,7 @@ COUNT = re.compile(r"(= add (?:nuw |nsw )*i(?:32|64) %\w+, )(1)()$")
 
 def toolchain():
     kit = pathlib.Path(subprocess.run(["rt", "doc"], stdout=subprocess.PIPE, check=True, text=True).stdout.strip())
-    return kit.parent.parent / "on/x86_64/toolchain"
+    return kit.parent.parent / "on" / MACHINE / "toolchain"
 
 
 def mutants(lines):
@@ -40,9 +42,8 @@ def mutants(lines):
 def build(tools, lines):
     module = WORK / "mutant.ll"
     module.write_text("\n".join(lines))
-    subprocess.run([str(tools / "bin/clang"), "--target=x86_64-unknown-linux-gnu", "-march=x86-64",
-                    "--sysroot=%s" % tools, "-x", "ir", str(module), "-c", "-fPIC", "-O0", "-fsanitize=address",
-                    "-o", str(WORK / "mutant.o"),
+    subprocess.run([str(tools / "bin/clang"), "--target=%s-unknown-linux-gnu" % MACHINE, "--sysroot=%s" % tools, "-x",
+                    "ir", str(module), "-c", "-fPIC", "-O0", "-fsanitize=address", "-o", str(WORK / "mutant.o"),
                     "-fsanitize-coverage=inline-8bit-counters,pc-table,trace-cmp"], check=True)
     subprocess.run(["clang-14", "-fsanitize=fuzzer,address", str(OUT / "fuzz.o"), str(WORK / "mutant.o"), "-o",
                     str(WORK / "fuzz")], check=True)

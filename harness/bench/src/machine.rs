@@ -1,20 +1,34 @@
 //! What the head of the table says about the machine and the day.
 
+use std::env::consts::ARCH;
 use std::fs;
+use std::process::Command;
 use std::thread;
 use std::time::{SystemTime, UNIX_EPOCH};
 
+/// The processor's name and kind.
 pub fn processor() -> String {
     let text = fs::read_to_string("/proc/cpuinfo").unwrap_or_default();
-    let field = |name: &str| {
-        let line = text.lines().find(|line| line.starts_with(name))?;
-        Some(line.split_once(':')?.1.trim().to_owned())
-    };
-    let name = field("model name").unwrap_or_else(|| "unknown".to_owned());
-    match (field("cpu family"), field("model\t")) {
-        (Some(family), Some(model)) => format!("{name} (family {family}, model {model})"),
-        _ => name,
+    let name = field(&text, "model name").or_else(name_by_lscpu);
+    let name = name.unwrap_or_else(|| "unknown".to_owned());
+    match (field(&text, "cpu family"), field(&text, "model\t")) {
+        (Some(family), Some(model)) => format!("{name} ({ARCH}, family {family}, model {model})"),
+        _ => format!("{name} ({ARCH})"),
     }
+}
+
+/// What stands after the colon in the first line that begins so.
+fn field(text: &str, name: &str) -> Option<String> {
+    let line = text
+        .lines()
+        .find(|line| line.trim_start().starts_with(name))?;
+    Some(line.split_once(':')?.1.trim().to_owned())
+}
+
+/// On aarch64 /proc/cpuinfo has only numbers; lscpu knows the names for them.
+fn name_by_lscpu() -> Option<String> {
+    let said = Command::new("lscpu").env("LC_ALL", "C").output().ok()?;
+    field(&String::from_utf8_lossy(&said.stdout), "Model name")
 }
 
 pub fn cores() -> usize {

@@ -2,19 +2,21 @@
 
 use crate::measure::Measured;
 use crate::peers::Kind;
-use crate::table::{count, heading, ratio, row, texts};
+use crate::readings::ReadingMeasured;
+use crate::table::{count, heading, ratio, row, seconds, texts};
 
 const TARGET: &str = "\
-The target of being within 1.3 times of `scan` is about the workloads at their largest N, and so is this summary: small
-N show the cost of a step more than that of searching.
+The target of being within 1.3 times of `scan` is about searching, so about the workloads at their largest N, and so is
+this summary: small N show the cost of a step more than that of searching, and reading searches nothing.
 ";
 
-pub fn summary(kinds: &[Kind], measured: &[Measured]) -> String {
+pub fn summary(kinds: &[Kind], measured: &[Measured], readings: &[ReadingMeasured]) -> String {
     let largest = at_largest_n(measured);
     let hashed = Kind::HASHED.into_iter().filter(|kind| kinds.contains(kind));
     let hashed: Vec<Kind> = hashed.collect();
     let mut text = format!("## Summary\n\n{TARGET}\n");
     text += &beside_scan(&largest);
+    text += &beside_plain_reader(readings);
     if !hashed.is_empty() {
         text += &beside_hashed(&hashed, &largest);
     }
@@ -40,6 +42,23 @@ fn beside_scan(largest: &[&Measured]) -> String {
             ratio(most),
             workload.name,
             count(workload.n as u64)
+        ),
+    }
+}
+
+/// The greatest of the ratios to the plain reader.
+fn beside_plain_reader(readings: &[ReadingMeasured]) -> String {
+    let ratios = readings
+        .iter()
+        .map(|case| (case.korrigwen / case.plain, case));
+    match ratios.max_by(|(a, _), (b, _)| a.total_cmp(b)) {
+        None => String::new(),
+        Some((most, case)) => format!(
+            "- Korrigwen ÷ plain reader, for reading alone, is {} at most ({}: {} against {}).\n",
+            ratio(most),
+            case.name,
+            seconds(case.korrigwen),
+            seconds(case.plain)
         ),
     }
 }
@@ -116,6 +135,17 @@ mod tests {
         }
     }
 
+    /// A reading that takes a plain reader 4 ns.
+    fn read(name: &'static str, korrigwen: f64) -> ReadingMeasured {
+        ReadingMeasured {
+            name,
+            bytes: 0,
+            answer: String::new(),
+            korrigwen,
+            plain: 4e-9,
+        }
+    }
+
     #[test]
     fn only_the_largest_n_counts() {
         let all = [
@@ -124,9 +154,14 @@ mod tests {
             measured("Star", None, 5, &[3.0, 2.4, 1.5, 4.0]),
             measured("Chain", None, 1_000, &[1.2, 1.0, 2.0, 0.1]),
         ];
-        let text = summary(&Kind::ALL, &all);
+        let text = summary(
+            &Kind::ALL,
+            &all,
+            &[read("short", 6e-9), read("whole", 8e-9)],
+        );
         let expected = "\
 - Korrigwen ÷ `scan` is 1.25 at most (Star, N 5).
+- Korrigwen ÷ plain reader, for reading alone, is 2.00 at most (whole: 8.00 ns against 4.00 ns).
 - Peers with hash tables are faster than Korrigwen on 2 of 3 workloads, by up to 12.0 times (Chain, binary hash join). None is on: D.
 
 Korrigwen's time divided by the peer's, where that is over 1:
@@ -138,7 +173,7 @@ Korrigwen's time divided by the peer's, where that is over 1:
 
 ";
         assert_eq!(
-            text.split_once("searching.\n\n").map(|t| t.1),
+            text.split_once("searches nothing.\n\n").map(|t| t.1),
             Some(expected)
         );
     }
@@ -146,7 +181,7 @@ Korrigwen's time divided by the peer's, where that is over 1:
     #[test]
     fn without_hashed_peers() {
         let all = [measured("Star", None, 5, &[3.0, 2.4])];
-        let text = summary(&[Kind::Korrigwen, Kind::Scan], &all);
+        let text = summary(&[Kind::Korrigwen, Kind::Scan], &all, &[]);
         assert!(text.ends_with("1.25 at most (Star, N 5).\n\n"), "{text}");
     }
 }

@@ -1,5 +1,6 @@
 //! The Markdown: docs/BENCHMARKS.md as a whole.
 
+use std::env;
 use std::ffi::OsStr;
 use std::fmt::Write;
 
@@ -44,7 +45,7 @@ pub fn write(report: &Report) -> String {
         "![Time against N for Example 1.1 and for Diamond]({})\n\n",
         report.plot.display()
     );
-    text += &summary(kinds, measured);
+    text += &summary(kinds, measured, report.readings);
     let _ = write!(text, "## Peers\n\n{PEERS}\n## Workloads\n\n{RULES}\n");
     text += &times(kinds, measured, report.effort);
     text += &growths(kinds, measured);
@@ -58,16 +59,25 @@ fn head(options: &str) -> String {
         "# Benchmarks\n\n\
          <!-- Written by the command below. Edits here are lost. -->\n\n\
          {WHAT}\n\
-         In `harness/`:\n\n    {COMMAND}{options}\n\n\
+         In `harness/`:\n\n    {}{COMMAND}{options}\n\n\
          | | |\n|---|---|\n\
-         | Processor | {} |\n| Cores | {} |\n| Compiler of the peers | {} |\n\
-         | SQLite | {} |\n| Date | {} |\n\n",
+         | Processor | {} |\n| Cores | {} |\n| Library | {} |\n\
+         | Compiler of the peers | {} |\n| SQLite | {} |\n| Date | {} |\n\n",
+        archive_folder(),
         machine::processor(),
         machine::cores(),
+        env!("BENCH_LIBRARY"),
         env!("BENCH_RUSTC"),
         sqlite::version(),
         machine::today(),
     )
+}
+
+/// The folder of the library's archive as the command line had it.
+fn archive_folder() -> String {
+    env::var("KORRIGWEN_ARCHIVE_DIR")
+        .map(|folder| format!("KORRIGWEN_ARCHIVE_DIR={folder} "))
+        .unwrap_or_default()
 }
 
 /// A workload's times in one line.

@@ -5,30 +5,31 @@
 //! and then no lent area has been written to. The library keeps nothing between calls and may be
 //! called from several threads at once.
 //!
-//! The library is for x86-64; on other processors this crate compiles and exports nothing.
+//! `rt staticlib` writes the library for x86-64. On other processors this crate compiles and exports
+//! nothing, unless KORRIGWEN_ARCHIVE_DIR names a folder with an archive for the machine.
 
 #![warn(missing_docs)]
 
-#[cfg(target_arch = "x86_64")]
+#[cfg(linked)]
 pub mod foreign;
-#[cfg(all(test, target_arch = "x86_64"))]
+#[cfg(all(test, linked))]
 mod jobs;
-#[cfg(target_arch = "x86_64")]
+#[cfg(linked)]
 mod operations;
-#[cfg(target_arch = "x86_64")]
+#[cfg(linked)]
 mod records;
 
-#[cfg(target_arch = "x86_64")]
+#[cfg(linked)]
 pub use foreign::{Entry, State};
-#[cfg(target_arch = "x86_64")]
+#[cfg(linked)]
 pub use operations::{begin, join_values, read, run, Job, Reason, Refusal};
-#[cfg(target_arch = "x86_64")]
+#[cfg(linked)]
 pub use records::{for_each_record, Figures};
 
 /// Steps of one run, over all its calls.
-#[cfg(target_arch = "x86_64")]
+#[cfg(linked)]
 pub const STEP_LIMIT: u32 = 16_777_216;
 
 /// Values of a record at most: one for each distinct column.
-#[cfg(target_arch = "x86_64")]
+#[cfg(linked)]
 pub const MOST_VALUES: usize = 32;

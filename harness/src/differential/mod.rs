@@ -9,7 +9,7 @@ pub mod figures;
 mod forged;
 pub mod jobs;
 pub mod kinds;
-#[cfg(all(feature = "linked", target_arch = "x86_64"))]
+#[cfg(linked)]
 pub mod linked;
 pub mod memory;
 pub mod programs;

@@ -24,7 +24,7 @@ pub enum Through {
 }
 
 /// Whether the library can be linked.
-const CAN_LINK: bool = cfg!(all(feature = "linked", target_arch = "x86_64"));
+const CAN_LINK: bool = cfg!(linked);
 
 /// What is asked for on the command line.
 #[derive(Clone, Debug, PartialEq, Eq)]
@@ -120,13 +120,13 @@ fn all_jobs(
     engine.finish()
 }
 
-#[cfg(all(feature = "linked", target_arch = "x86_64"))]
+#[cfg(linked)]
 fn linked() -> Box<dyn Engine> {
     use super::{linked::Linked, memory::Memory};
     Box::new(Memory::new(Linked::default()))
 }
 
-#[cfg(not(all(feature = "linked", target_arch = "x86_64")))]
+#[cfg(not(linked))]
 fn linked() -> Box<dyn Engine> {
     unreachable!("the options do not allow it")
 }

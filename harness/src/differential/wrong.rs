@@ -215,7 +215,7 @@ fn wrong_answers_are_found() {
     }
 }
 
-#[cfg(all(feature = "linked", target_arch = "x86_64"))]
+#[cfg(linked)]
 #[test]
 fn the_library_is_as_the_model() {
     let mut engine = Memory::new(super::linked::Linked::default());
