@@ -4,4 +4,5 @@ pub mod Examples
 pub mod Running
 pub mod Joining
 pub mod Natural
+pub mod Paper
 pub mod Impostors

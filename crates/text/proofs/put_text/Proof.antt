@@ -1,5 +1,4 @@
 -- `text::put_text` lays one value's text into its cell and stores its length.
-use Prim.Native.Nat.{_-_}
 use mathlib.Core.Path.{_∙_}
 use borrow.Author.Needs.{needs}
 use mir.Facts.{toZ-ofZ}
