@@ -2,7 +2,8 @@
 # examples/test.sh: builds the C and the Python example, runs them on the jobs here and on those of make_cases.py, and
 # compares what they print with what the program prints. Last line: `examples: N passed`; exit 1 where one differs.
 # It needs cc, python3, target/bin/korrigwen (`rt check korrigwen`) and target/staticlib/libkorrigwen_c.a
-# (`rt staticlib korrigwen_c`).
+# (`rt staticlib korrigwen_c`); on other processors than x86-64 target/here/libkorrigwen_c.a (`harness/archive.sh`) instead,
+# and where that is missing the C example is left out.
 set -eu
 here=$(cd "$(dirname "$0")" && pwd)
 top=$(dirname "$here")
@@ -47,13 +48,14 @@ try() { # JOB
     same "join.py on $(basename "$1")" "$work/expected" "$work/python"
 }
 
+archive=$top/target/staticlib/libkorrigwen_c.a
+[ "$(uname -m)" = x86_64 ] || archive=$top/target/here/libkorrigwen_c.a
 c_program=
-if [ "$(uname -m)" = x86_64 ]; then
+if [ "$(uname -m)" = x86_64 ] || [ -f "$archive" ]; then
     c_program=$work/join
-    cc -std=c11 -O2 -Wall -Wextra -Werror -I"$top/include" "$here/c/join.c" "$top/target/staticlib/libkorrigwen_c.a" \
-        -o "$c_program"
+    cc -std=c11 -O2 -Wall -Wextra -Werror -I"$top/include" "$here/c/join.c" "$archive" -o "$c_program"
 else
-    echo "examples: the C example is left out here: the archive is for x86-64"
+    echo "examples: the C example is left out here: the archive is for x86-64, and harness/archive.sh was not run"
 fi
 python3 "$here/make_households.py" "$work/households.job"
 same "households.job and what make_households.py writes" "$here/households.job" "$work/households.job"
