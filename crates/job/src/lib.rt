@@ -7,10 +7,8 @@ use layout::Refusal;
 use layout::Verdict;
 use search::Found;
 ghost use mathlib.Core.Path.{_≡_};
-ghost use Prim.Native.Nat.{_<_};
-ghost use lib.ListN.{getD};
-ghost use Rattle.layout.specs.File.{noEntry};
-ghost use Rattle.job.specs.Read.{planMasks, refusedWith, readAnswer};
+ghost use Rattle.layout.specs.File.{entryAt};
+ghost use Rattle.job.specs.Read.{fileMasks, refusedWith, readAnswer};
 
 // An accepted job. Entries and plan bytes from k on are 0; so are the root's place among the parents
 // and those from k on.
@@ -27,32 +25,27 @@ pub struct Reading {
     pub job: Job,
 }
 
-// The mask of the table at plan position p.
-fn mask_at(entries: [Entry; 8], plan: [u8; 8], p: usize) -> u32
-    requires { ⌜ p < 8 ⌝ }
-    ensures { λ r. ⌜ r ≡ getD entries (getD plan p 0) noEntry .mask ⌝ }
+// The mask of a table, as the file has it.
+fn mask_of(s: &[u8], table: u8) -> u32
+    ensures { λ r. ⌜ r ≡ entryAt (now (s .entry)) table .mask ⌝ }
 {
-    let table = plan[p] as usize;
-    if 8 <= table {
-        return 0;
-    }
-    let e = entries[table];
-    e.mask
+    numbers::number_at(s, 12 + 16 * (table as usize) + 8)
 }
 
-// The masks in plan order.
-fn plan_masks(entries: [Entry; 8], plan: [u8; 8]) -> [u32; 8]
-    ensures { λ r. ⌜ r ≡ planMasks entries plan ⌝ }
+// The masks in plan order. They are taken from the file, since an array of entries by value is copied for
+// each of them.
+fn plan_masks(s: &[u8], plan: [u8; 8]) -> [u32; 8]
+    ensures { λ r. ⌜ r ≡ fileMasks (now (s .entry)) plan ⌝ }
 {
     [
-        mask_at(entries, plan, 0),
-        mask_at(entries, plan, 1),
-        mask_at(entries, plan, 2),
-        mask_at(entries, plan, 3),
-        mask_at(entries, plan, 4),
-        mask_at(entries, plan, 5),
-        mask_at(entries, plan, 6),
-        mask_at(entries, plan, 7),
+        mask_of(s, plan[0]),
+        mask_of(s, plan[1]),
+        mask_of(s, plan[2]),
+        mask_of(s, plan[3]),
+        mask_of(s, plan[4]),
+        mask_of(s, plan[5]),
+        mask_of(s, plan[6]),
+        mask_of(s, plan[7]),
     ]
 }
 
@@ -90,7 +83,7 @@ pub fn read(file: &[u8]) -> Reading
     let k = c.k;
     let plan = c.plan;
     let entries = c.entries;
-    let p = plan::parents_of(plan_masks(entries, plan), k);
+    let p = plan::parents_of(plan_masks(file, plan), k);
     let lacking = p.lacking;
     if let Found::At(place) = lacking {
         return refused_with(Refusal::Ear, place);

@@ -239,23 +239,23 @@ fn judge(e: Entry, len: usize, end: usize) -> EntryRead
     EntryRead::Numbers(e)
 }
 
-// The four numbers of entry i.
+// The four numbers of entry i, which is there.
 fn entry_at(s: &[u8], i: usize) -> Entry
-    requires { ⌜ i < 8 ⌝ }
+    requires { ⌜ (i < 8) × (28 + 16 * i ≤ length (now s)) ⌝ }
     ensures { λ r. ⌜ r ≡ entryAt (now (s .entry)) i ⌝ }
 {
     let at = 12 + 16 * i;
     Entry {
-        fields: numbers::number_at(s, at),
-        rows: numbers::number_at(s, at + 4),
-        mask: numbers::number_at(s, at + 8),
-        offset: numbers::number_at(s, at + 12),
+        fields: numbers::number_there(s, at),
+        rows: numbers::number_there(s, at + 4),
+        mask: numbers::number_there(s, at + 8),
+        offset: numbers::number_there(s, at + 12),
     }
 }
 
 // Entry i: its four numbers, or its refusal.
 fn read_entry(s: &[u8], i: usize, end: usize) -> EntryRead
-    requires { ⌜ (i < 8) × (end ≤ 65535) ⌝ }
+    requires { ⌜ (i < 8) × (end ≤ 65535) × (28 + 16 * i ≤ length (now s)) ⌝ }
     ensures { λ r. ⌜ r ≡ judged (entryAt (now (s .entry)) i) (length (now (s .entry))) end ⌝ }
 {
     judge(entry_at(s, i), s.len(), end)

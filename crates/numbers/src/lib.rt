@@ -1,6 +1,6 @@
 // Bytes become numbers (document 01, "The job file"): four bytes, lowest first, are an unsigned
 // 32-bit number, and with two's complement a signed value. Where bytes run past the end, the number is 0,
-// and nothing is written there, so that no caller has to check first; `value_there` alone asks for bytes
+// and nothing is written there, so that no caller has to check first; `number_there` alone asks for bytes
 // that are there, and saves a search the test for each row.
 ghost use mathlib.Core.Path.{_≡_};
 ghost use Prim.Native.Nat.{_+_, _≤_, _<_};
@@ -37,6 +37,14 @@ fn four_bytes(s: &[u8], at: usize) -> u32
     wide(s[at]) + 256 * wide(s[at + 1]) + 65536 * wide(s[at + 2]) + 16777216 * wide(s[at + 3])
 }
 
+// The number at a place whose four bytes are there.
+pub fn number_there(s: &[u8], at: usize) -> u32
+    requires { ⌜ at + 4 ≤ length (now s) ⌝ }
+    ensures { λ r. ⌜ r ≡ numberAt (now (s .entry)) at ⌝ }
+{
+    four_bytes(s, at)
+}
+
 // The number at a place: 0 where its four bytes run past the end.
 pub fn number_at(s: &[u8], at: usize) -> u32
     ensures { λ r. ⌜ r ≡ numberAt (now (s .entry)) at ⌝ }
@@ -45,7 +53,7 @@ pub fn number_at(s: &[u8], at: usize) -> u32
         return 0;
     }
     if at <= s.len() - 4 {
-        four_bytes(s, at)
+        number_there(s, at)
     } else {
         0
     }
@@ -67,12 +75,4 @@ pub fn value_at(s: &[u8], at: usize) -> i32
     ensures { λ r. ⌜ r ≡ valueAt (now (s .entry)) at ⌝ }
 {
     as_signed(number_at(s, at))
-}
-
-// The value at a place whose four bytes are there.
-pub fn value_there(s: &[u8], at: usize) -> i32
-    requires { ⌜ at + 4 ≤ length (now s) ⌝ }
-    ensures { λ r. ⌜ r ≡ valueAt (now (s .entry)) at ⌝ }
-{
-    as_signed(four_bytes(s, at))
 }

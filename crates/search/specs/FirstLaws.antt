@@ -1,7 +1,7 @@
 -- What a search says of the number that it gives, in this order: one turn of it, for the proofs of loops; what is known of a number
 -- that was found; what is known where nothing was found; that a search looks at its property's values alone; and `isFound`.
 use Prim.Native.Nat.{ℕ, zero, suc, _+_, _-_, _≤_, _<_}
-use mathlib.Core.Path.{_≡_, refl, sym, ap, _∙_, subst}
+use mathlib.Core.Path.{_≡_, refl, sym, subst}
 use mathlib.Core.Bool.{Bool, true, false}
 use native.Mathlib.Omega.{arith}
 use native.Mathlib.Decide.{ℕ-discrete}
@@ -23,15 +23,6 @@ module _ (f : ℕ → Bool) (end p : ℕ) where
   pub first-none : end ≤ p → firstOf f (end - p) p ≡ Nothing
   unfolding firstOf
   first-none h = let n : end - p ≡ 0 = omega arith in rw n
-
--- the n numbers from p on fail
-pub first-past : (f : ℕ → Bool) (end p n : ℕ) → p + n ≤ end → ((q : ℕ) → p ≤ q → q < p + n → f q ≡ false) → firstOf f (end - p) p ≡ firstOf f (end - (p + n)) (p + n)
-first-past f end p zero h fails = ap (λ (x : ℕ). firstOf f (end - x) x) (omega arith)
-first-past f end p (suc n) h fails =
-    let e : p + 1 + n ≡ p + suc n = omega arith in
-    first-on f end p (omega arith) (fails p (omega arith) (omega arith))
-    ∙ first-past f end (p + 1) n (omega arith) (λ q l u. fails q (omega arith) (omega arith))
-    ∙ ap (λ (x : ℕ). firstOf f (end - x) x) e
 
 -- ---- a number that was found
 pub record First (f : ℕ → Bool) (n from p : ℕ) : Type 0 where

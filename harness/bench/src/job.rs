@@ -73,15 +73,15 @@ pub fn read(file: &[u8]) -> Result<Job, Refusal> {
     if file.len() < LEAST_FILE + ENTRY_BYTES * k {
         return refuse(3, 0);
     }
-    let plan = read_plan(file, k)?;
-    let entries = read_entries(file, k)?;
-    let parents = read_parents(k, &plan, &entries)?;
-    Ok(Job {
+    let mut job = Job {
         k,
-        plan,
-        entries,
-        parents,
-    })
+        plan: read_plan(file, k)?,
+        entries: [Entry::default(); MOST_TABLES],
+        parents: [0; MOST_TABLES],
+    };
+    read_entries(file, &mut job.entries[..k])?;
+    find_parents(&mut job)?;
+    Ok(job)
 }
 
 fn refuse<T>(number: u32, place: usize) -> Result<T, Refusal> {
@@ -97,30 +97,27 @@ fn read_plan(file: &[u8], k: usize) -> Result<[u8; MOST_TABLES], Refusal> {
     let mut plan = [0; MOST_TABLES];
     plan.copy_from_slice(&file[4..LEAST_FILE]);
     let mut seen = 0_u8;
-    for (position, &byte) in plan.iter().enumerate() {
-        if position >= k {
-            if byte != 0 {
-                return refuse(4, position);
-            }
-        } else if usize::from(byte) >= k || seen & (1 << byte) != 0 {
+    for (position, &byte) in plan[..k].iter().enumerate() {
+        if usize::from(byte) >= k || seen & (1 << byte) != 0 {
             return refuse(4, position);
-        } else {
-            seen |= 1 << byte;
         }
+        seen |= 1 << byte;
     }
-    Ok(plan)
+    match plan[k..].iter().position(|&byte| byte != 0) {
+        Some(after) => refuse(4, k + after),
+        None => Ok(plan),
+    }
 }
 
-fn read_entries(file: &[u8], k: usize) -> Result<[Entry; MOST_TABLES], Refusal> {
-    let mut entries = [Entry::default(); MOST_TABLES];
-    let mut end = LEAST_FILE + ENTRY_BYTES * k;
-    for (place, entry) in entries[..k].iter_mut().enumerate() {
-        let at = LEAST_FILE + ENTRY_BYTES * place;
+fn read_entries(file: &[u8], entries: &mut [Entry]) -> Result<(), Refusal> {
+    let mut end = LEAST_FILE + ENTRY_BYTES * entries.len();
+    let contents = file[LEAST_FILE..end].chunks_exact(ENTRY_BYTES);
+    for (place, (entry, bytes)) in entries.iter_mut().zip(contents).enumerate() {
         *entry = Entry {
-            fields: number_at(file, at),
-            rows: number_at(file, at + 4),
-            mask: number_at(file, at + 8),
-            offset: number_at(file, at + 12),
+            fields: number_at(bytes, 0),
+            rows: number_at(bytes, 4),
+            mask: number_at(bytes, 8),
+            offset: number_at(bytes, 12),
         };
         let ones = entry.mask.count_ones();
         if ones == 0 || ones > MOST_COLUMNS {
@@ -143,25 +140,20 @@ fn read_entries(file: &[u8], k: usize) -> Result<[Entry; MOST_TABLES], Refusal> 
     if end < file.len() {
         return refuse(10, 0);
     }
-    Ok(entries)
+    Ok(())
 }
 
-fn read_parents(
-    k: usize,
-    plan: &[u8; MOST_TABLES],
-    entries: &[Entry; MOST_TABLES],
-) -> Result<[usize; MOST_TABLES], Refusal> {
-    let mask_at = |position: usize| entries[usize::from(plan[position])].mask;
-    let mut parents = [0; MOST_TABLES];
-    let mut earlier = mask_at(0);
-    for (position, parent) in parents.iter_mut().enumerate().take(k).skip(1) {
-        let mask = mask_at(position);
-        let keys = mask & earlier;
-        *parent = match (0..position).find(|&p| keys & !mask_at(p) == 0) {
+fn find_parents(job: &mut Job) -> Result<(), Refusal> {
+    let masks = job.plan.map(|table| job.entries[usize::from(table)].mask);
+    let mut earlier = masks[0];
+    for position in 1..job.k {
+        let keys = masks[position] & earlier;
+        let parent = masks[..position].iter().position(|mask| keys & !mask == 0);
+        job.parents[position] = match parent {
             Some(parent) => parent,
             None => return refuse(11, position),
         };
-        earlier |= mask;
+        earlier |= masks[position];
     }
-    Ok(parents)
+    Ok(())
 }

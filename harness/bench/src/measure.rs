@@ -55,8 +55,7 @@ pub struct Measured {
     pub n: usize,
     pub bytes: usize,
     pub results: Vec<Result>,
-    /// The median of Korrigwen's time divided by that of `scan` in the same
-    /// round, so that a machine whose speed changes does not blur it.
+    /// Korrigwen's time divided by that of `scan`.
     pub to_scan: Option<f64>,
 }
 
@@ -92,7 +91,7 @@ pub fn workload(
         series,
         n,
         bytes: input.file.len(),
-        to_scan: paired.then(|| median(times[0].iter().zip(&times[1]).map(|(k, s)| k / s))),
+        to_scan: paired.then(|| median_ratio(&times[0], &times[1])),
         results: kinds
             .iter()
             .zip(&times)
@@ -172,6 +171,12 @@ pub fn median(values: impl Iterator<Item = f64>) -> f64 {
     let mut values: Vec<f64> = values.collect();
     values.sort_by(f64::total_cmp);
     values[values.len() / 2]
+}
+
+/// The median of a time divided by another's in the same turn, so that a
+/// machine whose speed changes does not blur it.
+pub fn median_ratio(times: &[f64], others: &[f64]) -> f64 {
+    median(times.iter().zip(others).map(|(time, other)| time / other))
 }
 
 /// Every peer gives Korrigwen's records; `scan` has its marks and steps too,

@@ -7,7 +7,7 @@ use std::fmt::Write;
 use crate::machine;
 use crate::measure::{growth, Effort, Measured, Result};
 use crate::peers::{korrigwen, sqlite, Kind, PEERS};
-use crate::readings::ReadingMeasured;
+use crate::readings::Readings;
 use crate::summary::summary;
 use crate::workloads::{Series, RULES};
 
@@ -29,7 +29,7 @@ with a plain reader.
 pub struct Report<'a> {
     pub kinds: &'a [Kind],
     pub measured: &'a [Measured],
-    pub readings: &'a [ReadingMeasured],
+    pub readings: &'a Readings,
     pub effort: &'a Effort,
     pub options: String,
     pub plot: &'a OsStr,
@@ -230,12 +230,14 @@ fn work_of(result: &Result) -> String {
     }
 }
 
-fn reading(readings: &[ReadingMeasured]) -> String {
+fn reading(readings: &Readings) -> String {
     let mut text = format!(
         "## Reading and refusing\n\n\
-         One call of `korrigwen_read`, and of a plain reader in Rust with the same checks; the median of batches of \
-         500 calls. A refusal too hands back an answer of {} bytes, all of it written, which is most of the time \
-         of an early one; the plain reader hands back only number and place.\n\n",
+         One call of `korrigwen_read`, and of a plain reader in Rust with the same checks and no `unsafe`. Both hand \
+         back the same answer of {} bytes, all of it written in a refusal too. The times are the median of batches of \
+         500 calls, the two readers and all files in turns. The last column is the median of Korrigwen's time divided \
+         by the plain reader's in the same turn. The last row is this workload as a whole: the sums of the times, and \
+         the median of the ratio of the sums in a turn.\n\n",
         size_of::<korrigwen::Reading>()
     );
     let names = [
@@ -247,14 +249,14 @@ fn reading(readings: &[ReadingMeasured]) -> String {
         "Korrigwen ÷ plain",
     ];
     text += &heading(&texts(&names));
-    for case in readings {
+    for case in readings.files.iter().chain([&readings.all]) {
         text += &row(&[
             case.name.to_owned(),
             count(case.bytes as u64),
             case.answer.clone(),
             seconds(case.korrigwen),
             seconds(case.plain),
-            ratio(case.korrigwen / case.plain),
+            ratio(case.to_plain),
         ]);
     }
     text

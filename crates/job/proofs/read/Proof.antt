@@ -5,6 +5,7 @@ use mathlib.Core.Path.{sym, _∙_, ap, _≡_}
 use Prim.Native.Nat.{ℕ}
 use mathlib.Core.List.{List}
 use Rattle.job.specs.ReadLaws.{read-refused, read-lacking, read-accepted}
+use Rattle.job.specs.Outcome.{masks-given}
 use Rattle.job.specs.Read.{readAnswer, readContents, planParents, acceptedWith}
 use Rattle.layout.specs.ContentsLaws.{contents-few}
 use Rattle.plan.specs.Parents.{parentsOf}
@@ -44,7 +45,7 @@ refused-with-requires-2 c κs = search needs
 
 returns-2 : tie.Need-returns-2
 unfolding readAnswer planParents
-returns-2 c = let parents : planParents (c .before .before .before .before .before .before .before .before .before .before .read-contents .result) ≡ c .before .before .before .before .parents-of .result = sym (c .before .before .before .before .parents-of .ensures ∙ ap (λ (m : List ℕ). parentsOf m (c .before .before .before .before .before .before .before .before .before .before .read-contents .result .k)) (c .before .before .before .before .before .plan-masks .ensures)) in
+returns-2 c = let parents : planParents (c .before .before .before .before .before .before .before .before .before .before .read-contents .result) ≡ c .before .before .before .before .parents-of .result = sym (c .before .before .before .before .parents-of .ensures ∙ ap (λ (m : List ℕ). parentsOf m (c .before .before .before .before .before .before .before .before .before .before .read-contents .result .k)) (c .before .before .before .before .before .plan-masks .ensures ∙ masks-given _ _ (c .before .before .before .before .before .before .before .before .before .before .read-contents .ensures) (c .before .before .before .before .before .before .before .before .enum-told .given .1))) in
     c .refused-with2 .ensures
     ∙ read-lacking _ _ (c .before .before .before .before .before .before .before .before .enum-told .given .1) (ap (λ (p : Parents). p .lacking) parents ∙ c .before .before .lacking .given .1)
     ∙ ap readContents (c .before .before .before .before .before .before .before .before .before .before .read-contents .ensures)
@@ -54,7 +55,7 @@ enum-told-2 c = search needs
 
 returns-3 : tie.Need-returns-3
 unfolding readAnswer planParents
-returns-3 c = let parents : planParents (c .before .before .before .before .before .before .before .before .before .read-contents .result) ≡ c .before .before .before .parents-of .result = sym (c .before .before .before .parents-of .ensures ∙ ap (λ (m : List ℕ). parentsOf m (c .before .before .before .before .before .before .before .before .before .read-contents .result .k)) (c .before .before .before .before .plan-masks .ensures)) in
+returns-3 c = let parents : planParents (c .before .before .before .before .before .before .before .before .before .read-contents .result) ≡ c .before .before .before .parents-of .result = sym (c .before .before .before .parents-of .ensures ∙ ap (λ (m : List ℕ). parentsOf m (c .before .before .before .before .before .before .before .before .before .read-contents .result .k)) (c .before .before .before .before .plan-masks .ensures ∙ masks-given _ _ (c .before .before .before .before .before .before .before .before .before .read-contents .ensures) (c .before .before .before .before .before .before .before .enum-told .given .1))) in
     ap (acceptedWith (c .before .before .before .before .before .before .before .before .before .read-contents .result)) (sym parents)
     ∙ read-accepted _ (c .before .before .before .before .before .before .before .enum-told .given .1) (ap (λ (p : Parents). p .lacking) parents ∙ c .before .enum-told2 .given .1)
     ∙ ap readContents (c .before .before .before .before .before .before .before .before .before .read-contents .ensures)

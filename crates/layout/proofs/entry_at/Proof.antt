@@ -9,26 +9,26 @@ mul-at c = search needs
 add-at : tie.Need-add-at
 add-at c = search needs
 
-number-at-requires : tie.Need-number-at-requires
-number-at-requires c κs = search needs
+number-there-requires : tie.Need-number-there-requires
+number-there-requires c κs = search needs
 
-add-number-at : tie.Need-add-number-at
-add-number-at c = search needs
+add-number-there : tie.Need-add-number-there
+add-number-there c = search needs
 
-number-at-requires-2 : tie.Need-number-at-requires-2
-number-at-requires-2 c κs = search needs
+number-there-requires-2 : tie.Need-number-there-requires-2
+number-there-requires-2 c κs = search needs
 
-add-number-at-2 : tie.Need-add-number-at-2
-add-number-at-2 c = search needs
+add-number-there-2 : tie.Need-add-number-there-2
+add-number-there-2 c = search needs
 
-number-at-requires-3 : tie.Need-number-at-requires-3
-number-at-requires-3 c κs = search needs
+number-there-requires-3 : tie.Need-number-there-requires-3
+number-there-requires-3 c κs = search needs
 
-add-number-at-3 : tie.Need-add-number-at-3
-add-number-at-3 c = search needs
+add-number-there-3 : tie.Need-add-number-there-3
+add-number-there-3 c = search needs
 
-number-at-requires-4 : tie.Need-number-at-requires-4
-number-at-requires-4 c κs = search needs
+number-there-requires-4 : tie.Need-number-there-requires-4
+number-there-requires-4 c κs = search needs
 
 returns : tie.Need-returns
 returns c = cc
@@ -39,11 +39,11 @@ entry-at-spec =
     (tie.spec
     mul-at
     add-at
-    number-at-requires
-    add-number-at
-    number-at-requires-2
-    add-number-at-2
-    number-at-requires-3
-    add-number-at-3
-    number-at-requires-4
+    number-there-requires
+    add-number-there
+    number-there-requires-2
+    add-number-there-2
+    number-there-requires-3
+    add-number-there-3
+    number-there-requires-4
     returns)

@@ -4,33 +4,9 @@
 use ::korrigwen::{begin, run, Reason, STEP_LIMIT};
 
 use super::{Counts, Input, Peer, Records};
-use crate::job;
 
 /// Reading alone, with the answer as the library writes it.
-pub use ::korrigwen::foreign::{read, Reading};
-
-const ACCEPTED: u32 = 0;
-
-/// An answer of reading, as the plain reader gives it.
-pub fn answer(reading: &Reading) -> Result<job::Job, job::Refusal> {
-    if reading.number != ACCEPTED {
-        return Err(job::Refusal {
-            number: reading.number,
-            place: reading.place,
-        });
-    }
-    Ok(job::Job {
-        k: reading.k,
-        plan: reading.plan,
-        entries: reading.entries.map(|entry| job::Entry {
-            fields: entry.fields,
-            rows: entry.rows,
-            mask: entry.mask,
-            offset: entry.offset,
-        }),
-        parents: reading.parents,
-    })
-}
+pub use ::korrigwen::foreign::{read, Entry, Reading};
 
 pub struct Korrigwen<'a> {
     file: &'a [u8],

@@ -10,6 +10,7 @@ use korrigwen_harness::{reader, runner};
 
 use super::{Counts, Input, Kind, Peer, Records};
 use crate::measure::check;
+use crate::readings;
 
 /// Runs all peers and holds them against Korrigwen, and Korrigwen against the
 /// harness. Gives Korrigwen's counts.
@@ -147,13 +148,6 @@ fn random_files_are_read_alike() {
         let mut file = random_job(&mut dice);
         let at = dice.below(file.len().min(100));
         file[at] = dice.below(20) as u8;
-        let plain = crate::job::read(&file);
-        assert_eq!(
-            super::korrigwen::answer(&super::korrigwen::read(&file)),
-            plain
-        );
-        let refusal = plain.err().map(|r| (r.number, r.place as u32));
-        let models = reader::read(&file).err().map(|r| (r.number, r.place));
-        assert_eq!(refusal, models);
+        readings::check("a random file", &file);
     }
 }
