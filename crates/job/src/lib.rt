@@ -8,7 +8,8 @@ use layout::Verdict;
 use search::Found;
 ghost use mathlib.Core.Path.{_≡_};
 ghost use Rattle.layout.specs.File.{entryAt};
-ghost use Rattle.job.specs.Read.{fileMasks, refusedWith, readAnswer};
+ghost use Rattle.job.specs.Given.{fileMasks};
+ghost use Rattle.job.specs.Read.{refusedWith, readAnswer};
 
 // An accepted job. Entries and plan bytes from k on are 0; so are the root's place among the parents
 // and those from k on.
@@ -26,7 +27,7 @@ pub struct Reading {
 }
 
 // The mask of a table, as the file has it.
-fn mask_of(s: &[u8], table: u8) -> u32
+fn table_mask(s: &[u8], table: u8) -> u32
     ensures { λ r. ⌜ r ≡ entryAt (now (s .entry)) table .mask ⌝ }
 {
     numbers::number_at(s, 12 + 16 * (table as usize) + 8)
@@ -38,14 +39,14 @@ fn plan_masks(s: &[u8], plan: [u8; 8]) -> [u32; 8]
     ensures { λ r. ⌜ r ≡ fileMasks (now (s .entry)) plan ⌝ }
 {
     [
-        mask_of(s, plan[0]),
-        mask_of(s, plan[1]),
-        mask_of(s, plan[2]),
-        mask_of(s, plan[3]),
-        mask_of(s, plan[4]),
-        mask_of(s, plan[5]),
-        mask_of(s, plan[6]),
-        mask_of(s, plan[7]),
+        table_mask(s, plan[0]),
+        table_mask(s, plan[1]),
+        table_mask(s, plan[2]),
+        table_mask(s, plan[3]),
+        table_mask(s, plan[4]),
+        table_mask(s, plan[5]),
+        table_mask(s, plan[6]),
+        table_mask(s, plan[7]),
     ]
 }
 
