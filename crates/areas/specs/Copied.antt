@@ -1,5 +1,5 @@
--- The first places of one list copied over the front of another, as a loop that copies leaves it: one place more, what stands where, and
--- the length.
+-- The first places of one list copied over the front of another, as a loop that copies leaves it: one place more, what stands
+-- where, and the length.
 use Prim.Native.Nat.{ℕ, _+_, _-_, _≤_, _<_}
 use mathlib.Core.Path.{_≡_, sym, ap, _∙_}
 use mathlib.Core.List.{List, _++_}
@@ -13,7 +13,8 @@ use lib.Seq.{paste-suc, length-take-le, getD-take, getD-drop, getD-append-add}
 abbrev pub copied {ℓ} : {A : Type ℓ} → ℕ → List A → List A → List A
 copied n s d = take n s ++ drop n d
 
-pub copied-next {ℓ} : {A : Type ℓ} (n : ℕ) (s d : List A) (z : A) → n < length s → n < length d → set (copied n s d) n (getD s n z) ≡ copied (n + 1) s d
+pub copied-next {ℓ} : {A : Type ℓ} (n : ℕ) (s d : List A) (z : A) → n < length s → n < length d
+    → set (copied n s d) n (getD s n z) ≡ copied (n + 1) s d
 copied-next n s d z h l = rw add-one (simp zero-add at (paste-suc d 0 s n z (rw zero-add l) h))
 
 module _ {ℓ} {A : Type ℓ} (n : ℕ) (s d : List A) (h : n ≤ length s) (l : n ≤ length d) where
@@ -32,4 +33,7 @@ module _ {ℓ} {A : Type ℓ} (n : ℕ) (s d : List A) (h : n ≤ length s) (l :
       let a : length (take n s) ≡ n = length-take-le n s h in
       let e : length (take n s) + (i - n) ≡ i = omega arith in
       let f : n + (i - n) ≡ i = omega arith in
-      ap (λ (x : ℕ). getD (copied n s d) x z) (sym e) ∙ getD-append-add (take n s) (drop n d) (i - n) z ∙ getD-drop n d (i - n) z ∙ ap (λ (x : ℕ). getD d x z) f
+      ap (λ (x : ℕ). getD (copied n s d) x z) (sym e)
+      ∙ getD-append-add (take n s) (drop n d) (i - n) z
+      ∙ getD-drop n d (i - n) z
+      ∙ ap (λ (x : ℕ). getD d x z) f

@@ -1,6 +1,6 @@
--- Document 01, "How tight the statements have to be": the impostors that it names, each refuted. A reader or a runner here is anything that
--- might stand in the place of `read` or `run`; what refutes it is one sentence of the theorem page, kept for every input. That `read` and
--- `run` keep these sentences is on the page.
+-- Document 01, "How tight the statements have to be": the impostors that it names, each refuted. A reader or a runner here is
+-- anything that might stand in the place of `read` or `run`; what refutes it is one sentence of the theorem page, kept for every
+-- input. That `read` and `run` keep these sentences is on the page.
 use Prim.Native.Nat.{ℕ, _+_, _-_, _*_, _≤_, _<_}
 use mathlib.Core.Path.{_≡_, refl, sym, ap, _∙_}
 use mathlib.Core.Logic.{_↔_, _≢_}
@@ -14,7 +14,8 @@ use Rattle.search.specs.First.{foundOr, firstOf, isFound}
 use Rattle.columns.specs.Columns.{has, columnsBelow, implies, everyBelow}
 use Rattle.layout.specs.declared.Verdict.the-variants.{Accepted}
 use Rattle.layout.specs.Layout.{Layout}
-use Rattle.layout.specs.Contents.{isOutside, refuseIf, headVerdict, repeated, faultyByte, endIf, judged, ending, onEntry, entriesFrom, afterHead, afterPlan, contentsOf}
+use Rattle.layout.specs.Contents.{isOutside, refuseIf, headVerdict, repeated, faultyByte, endIf, judged, ending, onEntry}
+use Rattle.layout.specs.Contents.{entriesFrom, afterHead, afterPlan, contentsOf}
 use Rattle.plan.specs.Ears.{occurs, isKey, hasKeys}
 use Rattle.plan.specs.Parents.{onParent, parentsFrom, parentsOf}
 use Rattle.plan.specs.Paper.{ReductionOrder}
@@ -63,9 +64,26 @@ record Computed : Type 0 where
   bound : (positionsIn jobW .k - 1) * (stepsW 12 .state .records + markedIn (stepsW 12 .marks) (positionsIn jobW .total)) ≡ 6
 
 computed : Computed
-unfolding le bytes file W twins empty readAnswer readContents afterContents Read.afterPlan planParents contentsOf afterHead afterPlan headVerdict isOutside refuseIf repeated faultyByte endIf judged ending onEntry entriesFrom parentsOf parentsFrom onParent occurs isKey hasKeys has columnsBelow implies everyBelow firstOf foundOr isFound numberAt rowsBefore begun beginIn beginAnswer iterate coreStep markedIn markOf live matches nextRow chose fruitless advanceOf lookupOf lookupMarks stepOf stepMarks naturalJoin choicesFrom withRow only along rowsAgree pairAgrees agreeOn agree valueOf valueAt signed
-computed =
-    record { accepted = refl; begins-twins = refl; begins-empty = refl; begins-W = refl; fresh = refl; three = refl; two = refl; none = refl; one = refl; none-yet = refl; first = refl; lookups = refl; bound = refl }
+unfolding le bytes file W twins empty readAnswer readContents afterContents Read.afterPlan planParents contentsOf afterHead
+    afterPlan headVerdict isOutside refuseIf repeated faultyByte endIf judged ending onEntry entriesFrom parentsOf parentsFrom
+    onParent occurs isKey hasKeys has columnsBelow implies everyBelow firstOf foundOr isFound numberAt rowsBefore begun beginIn
+    beginAnswer iterate coreStep markedIn markOf live matches nextRow chose fruitless advanceOf lookupOf lookupMarks stepOf
+    stepMarks naturalJoin choicesFrom withRow only along rowsAgree pairAgrees agreeOn agree valueOf valueAt signed
+computed = record {
+  accepted = refl;
+  begins-twins = refl;
+  begins-empty = refl;
+  begins-W = refl;
+  fresh = refl;
+  three = refl;
+  two = refl;
+  none = refl;
+  one = refl;
+  none-yet = refl;
+  first = refl;
+  lookups = refl;
+  bound = refl;
+}
 
 -- a file of no bytes is refused
 none-refused : readAnswer [] .verdict ≢ Accepted
@@ -92,24 +110,34 @@ module _ (read : List ℕ → Reading) (keeps : AcceptsExactly read) where
 -- ---- runners
 -- the sentence on records, at the end
 abbrev pub YieldsJoin : Runner → Type 0
-YieldsJoin run = (s m : List ℕ) → Began s m → (cs : List Call) → isEnded (callsBy run s cs (begun s m) .state .next) ≡ true → callsBy run s cs (begun s m) .records ≡ naturalJoin s
+YieldsJoin run =
+    (s m : List ℕ) → Began s m → (cs : List Call) → isEnded (callsBy run s cs (begun s m) .state .next) ≡ true
+    → callsBy run s cs (begun s m) .records ≡ naturalJoin s
 
 pub run-yields : YieldsJoin runAnswer
 run-yields = records-all
 
 -- the sentence on state and marks, after any calls
 abbrev pub KeepsStep : Runner → Type 0
-KeepsStep run = (s m : List ℕ) → Began s m → (cs : List Call) → core (callsBy run s cs (begun s m) .state) (callsBy run s cs (begun s m) .marks) ≡ iterate (positionsIn s) s (callsBy run s cs (begun s m) .state .steps) (start s m)
+KeepsStep run =
+    (s m : List ℕ) → Began s m → (cs : List Call)
+    → core (callsBy run s cs (begun s m) .state) (callsBy run s cs (begun s m) .marks)
+    ≡ iterate (positionsIn s) s (callsBy run s cs (begun s m) .state .steps) (start s m)
 
 pub run-keeps : KeepsStep runAnswer
 run-keeps = same-as-procedure
 
 -- a runner comes to an end with these records, whatever the job is
 abbrev pub EndsWith : Runner → List (List ℕ) → Type 0
-EndsWith run records = (s m : List ℕ) → Began s m → (cs : List Call) × (isEnded (callsBy run s cs (begun s m) .state .next) ≡ true) × (callsBy run s cs (begun s m) .records ≡ records)
+EndsWith run records =
+    (s m : List ℕ) → Began s m
+    → (cs : List Call)
+    × (isEnded (callsBy run s cs (begun s m) .state .next) ≡ true)
+    × (callsBy run s cs (begun s m) .records ≡ records)
 
 module _ (run : Runner) (yields : YieldsJoin run) where
-  ends-in-join : (records : List (List ℕ)) → EndsWith run records → (s m : List ℕ) → Began s m → length records ≡ length (naturalJoin s)
+  ends-in-join : (records : List (List ℕ)) → EndsWith run records → (s m : List ℕ) → Began s m
+      → length records ≡ length (naturalJoin s)
   ends-in-join records h s m b = let (cs, e, r) = h s m b in ap length (sym r ∙ yields s m b cs e)
 
   -- a runner that yields one fixed list
@@ -145,22 +173,32 @@ module _ (run : Runner) (keeps : KeepsStep run) (cs : List Call) where
   own-figure e = ap (λ (c : Core). c .state .lookups) (is-step 12 e) ∙ computed .lookups
 
   -- so a figure made up to fit the bound, which allows 6, is another
-  pub made-up-figure : after .state .steps ≡ 12 → after .state .lookups ≡ (positionsIn jobW .k - 1) * (after .state .records + markedIn (after .marks) (positionsIn jobW .total)) → ⊥
+  pub made-up-figure : after .state .steps ≡ 12
+      → after .state .lookups
+      ≡ (positionsIn jobW .k - 1) * (after .state .records + markedIn (after .marks) (positionsIn jobW .total))
+      → ⊥
   made-up-figure e h =
       let five = own-figure e in
-      let six = ap (λ (c : Core). (positionsIn jobW .k - 1) * (c .state .records + markedIn (c .marks) (positionsIn jobW .total))) (is-step 12 e) ∙ computed .bound in
+      let six = ap (λ (c : Core). (positionsIn jobW .k - 1) * (c .state .records + markedIn (c .marks) (positionsIn jobW .total)))
+      (is-step 12 e)
+      ∙ computed .bound in
       omega arith
 
 -- the sentence on budgets
 abbrev pub KeepsBudget : Runner → Type 0
-KeepsBudget run = (s m : List ℕ) → Began s m → (cs : List Call) (c : Call) → calledBy run s (callsBy run s cs (begun s m)) c .state .steps ≤ callsBy run s cs (begun s m) .state .steps + c .budget
+KeepsBudget run =
+    (s m : List ℕ) → Began s m → (cs : List Call) (c : Call)
+    → calledBy run s (callsBy run s cs (begun s m)) c .state .steps ≤ callsBy run s cs (begun s m) .state .steps + c .budget
 
 pub run-in-budget : KeepsBudget runAnswer
 run-in-budget = within-budget
 
 -- the sentence on progress
 abbrev pub Progresses : Runner → Type 0
-Progresses run = (s m : List ℕ) → Began s m → (cs : List Call) (c : Call) → isEnded (callsBy run s cs (begun s m) .state .next) ≡ false → callsBy run s cs (begun s m) .state .steps ≢ 16777216 → c .budget ≢ 0 → positionsIn s .k ≤ length (c .area) → callsBy run s cs (begun s m) .state .steps < calledBy run s (callsBy run s cs (begun s m)) c .state .steps
+Progresses run =
+    (s m : List ℕ) → Began s m → (cs : List Call) (c : Call) → isEnded (callsBy run s cs (begun s m) .state .next) ≡ false
+    → callsBy run s cs (begun s m) .state .steps ≢ 16777216 → c .budget ≢ 0 → positionsIn s .k ≤ length (c .area)
+    → callsBy run s cs (begun s m) .state .steps < calledBy run s (callsBy run s cs (begun s m)) c .state .steps
 
 pub run-progresses : Progresses runAnswer
 run-progresses = progress
@@ -170,7 +208,9 @@ no-step : begun jobW marksW .state .steps ≡ 0
 no-step = ap (λ (t : State). t .steps) (computed .fresh)
 
 -- a runner that does the whole join in a first call with budget 1, whatever its steps say
-pub all-in-one-call : (run : Runner) → KeepsStep run → KeepsBudget run → (c : Call) → c .budget ≡ 1 → callsBy run jobW (c ∷ []) (begun jobW marksW) .state .records ≡ length (naturalJoin jobW) → ⊥
+pub all-in-one-call : (run : Runner) → KeepsStep run → KeepsBudget run → (c : Call) → c .budget ≡ 1
+    → callsBy run jobW (c ∷ []) (begun jobW marksW) .state .records ≡ length (naturalJoin jobW)
+    → ⊥
 unfolding callsBy
 all-in-one-call run keeps budget c e h =
     let most = budget jobW marksW (computed .begins-W) [] c in
@@ -178,10 +218,13 @@ all-in-one-call run keeps budget c e h =
     let one = computed .one in
     pick (ℕ-discrete (calledBy run jobW (begun jobW marksW) c .state .steps) 0) (omega arith)
   where
-    at-step : (n : ℕ) → calledBy run jobW (begun jobW marksW) c .state .steps ≡ n → calledBy run jobW (begun jobW marksW) c .state .records ≡ stepsW n .state .records
+    at-step : (n : ℕ) → calledBy run jobW (begun jobW marksW) c .state .steps ≡ n
+        → calledBy run jobW (begun jobW marksW) c .state .records ≡ stepsW n .state .records
     at-step n e = ap (λ (x : Core). x .state .records) (is-step run keeps (c ∷ []) n e)
 
-    pick : Dec (calledBy run jobW (begun jobW marksW) c .state .steps ≡ 0) → calledBy run jobW (begun jobW marksW) c .state .steps ≤ 1 → ⊥
+    pick : Dec (calledBy run jobW (begun jobW marksW) c .state .steps ≡ 0)
+        → calledBy run jobW (begun jobW marksW) c .state .steps ≤ 1
+        → ⊥
     pick (yes z) l = let r = at-step 0 z in let none = computed .none-yet in let one = computed .one in omega arith
     pick (no d) l = let r = at-step 1 (omega arith) in let none = computed .first in let one = computed .one in omega arith
 

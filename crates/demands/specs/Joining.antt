@@ -1,5 +1,5 @@
--- Joining values, and a state as numbers: what `join_values`, `numbers_of` and `state_of` answer, for every file, record, value area, state
--- and list of numbers. Their contracts are equations with `valuesAnswer`, `numbersOf` and `stateOf`.
+-- Joining values, and a state as numbers: what `join_values`, `numbers_of` and `state_of` answer, for every file, record, value
+-- area, state and list of numbers. Their contracts are equations with `valuesAnswer`, `numbersOf` and `stateOf`.
 use Prim.Native.Nat.{ℕ, _≤_, _<_}
 use mathlib.Core.Path.{_≡_}
 use mathlib.Core.Logic.{_↔_, _≢_, _⊎_}
@@ -18,7 +18,8 @@ use Rattle.job.specs.Given.{First}
 use Rattle.rows.specs.declared.Positions.{Positions}
 use Rattle.rows.specs.Rows.{positionsIn, entryOf, valueOf}
 use Rattle.treetracker.specs.declared.State.{State}
-use Rattle.values.specs.Values.{rowAt, recordFits, RecordFits, isColumn, columnsUpTo, columnTotal, firstWith, joinedPlaces, valuesAnswer, columns, refused}
+use Rattle.values.specs.Values.{rowAt, recordFits, RecordFits, isColumn, columnsUpTo, columnTotal, firstWith, joinedPlaces}
+use Rattle.values.specs.Values.{valuesAnswer, columns, refused}
 use Rattle.values.specs.FitLaws
 use Rattle.values.specs.Outcome.{Fitting}
 use Rattle.values.specs.Theorems as values
@@ -41,28 +42,41 @@ module _ (s r : List ℕ) (area : List ℤ) where
   values-reading = values.reading-exactly s r area
 
   -- 14, at 0, exactly if the job is accepted and the record does not fit
-  pub values-record : (p : ℕ) → (answered s r area ≡ refused 14 p) ↔ ((p ≡ 0) × (readAnswer s .verdict ≡ Accepted) × (Fitting s r → ⊥))
+  pub values-record : (p : ℕ)
+      → (answered s r area ≡ refused 14 p) ↔ ((p ≡ 0) × (readAnswer s .verdict ≡ Accepted) × (Fitting s r → ⊥))
   values-record = values.record-exactly s r area
 
   -- 15, at 0, exactly if the job is accepted, the record fits and the value area is shorter than the number of distinct columns
-  pub values-area : (p : ℕ) → (answered s r area ≡ refused 15 p) ↔ ((p ≡ 0) × (readAnswer s .verdict ≡ Accepted) × Fitting s r × (length area < columnTotal (positionsIn s)))
+  pub values-area : (p : ℕ)
+      → (answered s r area ≡ refused 15 p)
+      ↔ ((p ≡ 0) × (readAnswer s .verdict ≡ Accepted) × Fitting s r × (length area < columnTotal (positionsIn s)))
   values-area = values.area-exactly s r area
 
   -- otherwise the number of distinct columns
-  pub values-columns : (n : ℕ) → (answered s r area ≡ columns n) ↔ ((n ≡ columnTotal (positionsIn s)) × (readAnswer s .verdict ≡ Accepted) × Fitting s r × (columnTotal (positionsIn s) ≤ length area))
+  pub values-columns : (n : ℕ)
+      → (answered s r area ≡ columns n)
+      ↔ ((n ≡ columnTotal (positionsIn s))
+      × (readAnswer s .verdict ≡ Accepted)
+      × Fitting s r
+      × (columnTotal (positionsIn s) ≤ length area))
   values-columns = values.columns-exactly s r area
 
   -- a refusal leaves the value area as it came
   pub values-untouched : (n p : ℕ) → answered s r area ≡ refused n p → valuesAnswer s r area .values ≡ area
   values-untouched = values.refused-untouched s r area
 
-  -- "their values, ascending by column, stand at the front of the value area": after those of the columns below it stands the value of a
-  -- column, in the row of the first position that has it
-  pub column-value : (n : ℕ) → answered s r area ≡ columns n → (c : ℕ) → c < 32 → isColumn (positionsIn s) c ≡ true → (d : ℤ) → (p : ℕ) × (firstWith (positionsIn s) c ≡ At p) × (getD (valuesAnswer s r area .values) (columnsUpTo (positionsIn s) c) d ≡ valueOf s (entryOf (positionsIn s) p) (rowAt r p) c)
+  -- "their values, ascending by column, stand at the front of the value area": after those of the columns below it stands the
+  -- value of a column, in the row of the first position that has it
+  pub column-value : (n : ℕ) → answered s r area ≡ columns n → (c : ℕ) → c < 32 → isColumn (positionsIn s) c ≡ true → (d : ℤ)
+      → (p : ℕ)
+      × (firstWith (positionsIn s) c ≡ At p)
+      × (getD (valuesAnswer s r area .values) (columnsUpTo (positionsIn s) c) d
+      ≡ valueOf s (entryOf (positionsIn s) p) (rowAt r p) c)
   column-value = values.column-value s r area
 
   -- "and its later places are untouched"
-  pub later-untouched : (n : ℕ) → answered s r area ≡ columns n → (i : ℕ) → n ≤ i → (d : ℤ) → getD (valuesAnswer s r area .values) i d ≡ getD area i d
+  pub later-untouched : (n : ℕ) → answered s r area ≡ columns n → (i : ℕ) → n ≤ i → (d : ℤ)
+      → getD (valuesAnswer s r area .values) i d ≡ getD area i d
   later-untouched = values.later-untouched s r area
 
 -- ---- a state as numbers

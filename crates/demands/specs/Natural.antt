@@ -1,7 +1,8 @@
--- Demands 2 and 3: what run calls hand out, count and mark. A job is begun with a mark area m, and `calls s cs (begun s m)` is where any
--- list cs of calls leaves it, with any budgets and areas, each made on the file, state and marks as the former left them. The natural join is
--- `naturalJoin s`, the procedure of paper 001 `iterate` from `start s m`, and `blamedRows` the rows that its lookups marked, in order. These
--- are definitions of crates/join/specs/Natural.antt, Calls.antt and Blame.antt, and of crates/runs/specs/Procedure.antt.
+-- Demands 2 and 3: what run calls hand out, count and mark. A job is begun with a mark area m, and `calls s cs (begun s m)` is
+-- where any list cs of calls leaves it, with any budgets and areas, each made on the file, state and marks as the former left
+-- them. The natural join is `naturalJoin s`, the procedure of paper 001 `iterate` from `start s m`, and `blamedRows` the rows
+-- that its lookups marked, in order. These are definitions of crates/join/specs/Natural.antt, Calls.antt and Blame.antt, and of
+-- crates/runs/specs/Procedure.antt.
 use Prim.Native.Nat.{ℕ, _+_, _-_, _*_, _≤_, _<_}
 use mathlib.Core.Path.{_≡_}
 use mathlib.Core.Logic.{_↔_, _≢_, _⊎_}
@@ -56,13 +57,13 @@ module _ (s m : List ℕ) (b : Began s m) (cs : List Call) where
   abbrev blamed : List Row
   blamed = blamedRows s m (after .state .steps)
 
-  -- Same as the procedure: state and marks are those of its steps from the fresh state, as many as the state counts; so is the lookup count,
-  -- which is part of the state
+  -- Same as the procedure: state and marks are those of its steps from the fresh state, as many as the state counts; so is the
+  -- lookup count, which is part of the state
   pub same-as-procedure : core (after .state) (after .marks) ≡ iterate g s (after .state .steps) (start s m)
   same-as-procedure = CallLaws.stands s m b cs .same
 
-  -- Records: all that were handed out so far, in order, are the first of the natural join, as many as the state counts; at the end they are
-  -- all of it
+  -- Records: all that were handed out so far, in order, are the first of the natural join, as many as the state counts; at the
+  -- end they are all of it
   pub records-first : after .records ≡ take (after .state .records) (naturalJoin s)
   records-first = Outcome.records-first s m b cs
 
@@ -80,15 +81,17 @@ module _ (s m : List ℕ) (b : Began s m) (cs : List Call) where
   pub bound : after .state .lookups ≤ (g .k - 1) * (length (after .records) + markedIn (after .marks) (g .total) + 1)
   bound = Outcome.bound s m b cs
 
-  pub bound-end : isEnded (after .state .next) ≡ true → after .state .lookups ≤ (g .k - 1) * (length (naturalJoin s) + markedIn (after .marks) (g .total))
+  pub bound-end : isEnded (after .state .next) ≡ true
+      → after .state .lookups ≤ (g .k - 1) * (length (naturalJoin s) + markedIn (after .marks) (g .total))
   bound-end = Outcome.bound-end s m b cs
 
   -- at the end steps are at most 3 × lookups + records + 1
-  pub steps-end : isEnded (after .state .next) ≡ true → after .state .steps ≤ 3 * after .state .lookups + length (naturalJoin s) + 1
+  pub steps-end : isEnded (after .state .next) ≡ true
+      → after .state .steps ≤ 3 * after .state .lookups + length (naturalJoin s) + 1
   steps-end = Outcome.steps-end s m b cs
 
-  -- Marks: the mark area is the one that beginning left, with a 1 for each row that was blamed; none was blamed twice, so each marked row
-  -- is marked once
+  -- Marks: the mark area is the one that beginning left, with a 1 for each row that was blamed; none was blamed twice, so each
+  -- marked row is marked once
   pub marks-by : after .marks ≡ markedBy g blamed (cleared (g .total) m)
   marks-by = Outcome.marks-by s m b cs
 
@@ -126,11 +129,14 @@ module _ (s m : List ℕ) (b : Began s m) (cs : List Call) where
   pub state-fits : Fits g (after .state)
   state-fits = CallLaws.stands s m b cs .fits
 
-  pub never-refused : (c : Call) → (why : Stop) × (runAnswer s (after .state) (after .marks) (c .budget) (c .area) .answer .verdict ≡ Stopped why)
+  pub never-refused : (c : Call)
+      → (why : Stop) × (runAnswer s (after .state) (after .marks) (c .budget) (c .area) .answer .verdict ≡ Stopped why)
   never-refused = CallLaws.never-refused s m b after (CallLaws.stands s m b cs)
 
   -- Progress: a call that has budget and room takes a step, unless the run has ended or is at its step limit
-  pub progress : (c : Call) → isEnded (after .state .next) ≡ false → after .state .steps ≢ 16777216 → c .budget ≢ 0 → g .k ≤ length (c .area) → after .state .steps < called s after c .state .steps
+  pub progress : (c : Call) → isEnded (after .state .next) ≡ false → after .state .steps ≢ 16777216 → c .budget ≢ 0
+      → g .k ≤ length (c .area)
+      → after .state .steps < called s after c .state .steps
   progress = CallLaws.progress s m b after (CallLaws.stands s m b cs)
 
   -- and no more steps than its budget
@@ -146,5 +152,6 @@ module _ (s m : List ℕ) (b : Began s m) (cs : List Call) where
   limit-not-met = Outcome.limit-not-met s m b cs
 
 -- the procedure itself ends, for every accepted job
-pub procedure-ends : (s m : List ℕ) → JobAccepted s → positionsIn s .total ≤ length m → (n : ℕ) → enough s ≤ n → isEnded (iterate (positionsIn s) s n (start s m) .state .next) ≡ true
+pub procedure-ends : (s m : List ℕ) → JobAccepted s → positionsIn s .total ≤ length m → (n : ℕ) → enough s ≤ n
+    → isEnded (iterate (positionsIn s) s n (start s m) .state .next) ≡ true
 procedure-ends = Procedure.procedure-ends

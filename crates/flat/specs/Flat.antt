@@ -1,4 +1,5 @@
--- A state as 14 numbers, and back (document 01, "The steps of a run": "The state goes in by value and the next state is handed back").
+-- A state as 14 numbers, and back (document 01, "The steps of a run": "The state goes in by value and the next state is handed
+-- back").
 use Prim.Native.Nat.{ℕ}
 use mathlib.Core.List.{List, [], _∷_}
 use mathlib.Core.Bool.{Bool, cond, _&&_}

@@ -71,10 +71,17 @@ not-accepted e = let z : _≡_ {A = ℕ} 0 1 = cc in omega arith
 -- a state comes back from its numbers; an array of eight chosen rows is a list of eight
 pub back : (t : State) → length (t .chosen) ≡ 8 → stateOf (numbersOf t) ≡ taken t
 back t e =
-    is-taken (numbersOf t) refl (kind-most (t .next)) ∙ ap₂
-    (λ (x : Next) (c : List ℕ). taken (record { next = x; at = t .at; start = t .start; chosen = c; steps = t .steps; lookups = t .lookups; records = t .records }))
-    (kind-back (t .next))
-    (elements-of (t .chosen) 8 e)
+    is-taken (numbersOf t) refl (kind-most (t .next))
+    ∙ ap₂ (λ (x : Next) (c : List ℕ).
+    taken (record {
+      next = x;
+      at = t .at;
+      start = t .start;
+      chosen = c;
+      steps = t .steps;
+      lookups = t .lookups;
+      records = t .records;
+    })) (kind-back (t .next)) (elements-of (t .chosen) 8 e)
 
 -- numbers that are taken come back from their state
 pub forth : (n : List ℕ) → stateOf n .verdict ≡ Accepted → numbersOf (stateOf n .state) ≡ n

@@ -1,5 +1,5 @@
--- What the functions for other languages answer: the numbers of each answer of document 01's operations, and what they leave in each lent
--- area. An answer has number 0 where nothing was refused; in a refusal everything but number and place is 0.
+-- What the functions for other languages answer: the numbers of each answer of document 01's operations, and what they leave in
+-- each lent area. An answer has number 0 where nothing was refused; in a refusal everything but number and place is 0.
 use Prim.Native.Nat.{ℕ}
 use mathlib.Core.List.{List}
 use lib.IntN.{ℤ}
@@ -106,8 +106,12 @@ beginNumbers s m = begunWith (begunNumbers (beginAnswer s m .answer)) (beginAnsw
 
 -- ---- running
 abbrev pub ranNumbers : Ran → RanNumbers
-ranNumbers r =
-    record { number = ranNumber (r .verdict); place = ranPlace (r .verdict); reason = ranReason (r .verdict); state = stateNumbers (r .state) }
+ranNumbers r = record {
+  number = ranNumber (r .verdict);
+  place = ranPlace (r .verdict);
+  reason = ranReason (r .verdict);
+  state = stateNumbers (r .state);
+}
 
 -- the answer, and both areas afterwards
 pub record RanWith : Type 0 where

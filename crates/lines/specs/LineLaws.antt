@@ -48,17 +48,23 @@ module _ (s : List ℕ) (g : Positions) (r : List ℕ) where
   line-few p e = subst (λ (x : Places). x .n ≤ 32) (sym e) (places-few g r 32)
 
   -- each place lies in the file
-  pub line-placed : JobOf s g → inRange g r ≡ true → (p : Places) → p ≡ placesOf g r → (i : ℕ) → i < p .n → Placed s (getD (p .at) i 0)
+  pub line-placed : JobOf s g → inRange g r ≡ true → (p : Places) → p ≡ placesOf g r → (i : ℕ) → i < p .n
+      → Placed s (getD (p .at) i 0)
   unfolding inRange
   line-placed h low p e i l =
       let short : i < length (joinedPlaces g r) = subst (λ (x : Places). i < x .n) e l in
-      let here : getD (p .at) i 0 ≡ getD (joinedPlaces g r) i 0 = ap (λ (x : Places). getD (x .at) i 0) e ∙ List·getD-append (joinedPlaces g r) _ 0 i short in
+      let here : getD (p .at) i 0 ≡ getD (joinedPlaces g r) i 0 =
+      ap (λ (x : Places). getD (x .at) i 0) e ∙ List·getD-append (joinedPlaces g r) _ 0 i short in
       subst (Placed s) (sym here) (inside i short)
     where
       inside : (j : ℕ) → j < length (joinedPlaces g r) → Placed s (getD (joinedPlaces g r) j 0)
-      inside = subst (λ (x : Positions). inRange x r ≡ true → (j : ℕ) → j < length (joinedPlaces x r) → Placed s (getD (joinedPlaces x r) j 0)) (sym (h .positions)) own low
+      inside =
+          subst (λ (x : Positions).
+          inRange x r ≡ true → (j : ℕ) → j < length (joinedPlaces x r) → Placed s (getD (joinedPlaces x r) j 0))
+          (sym (h .positions)) own low
         where
-          own : inRange (positionsIn s) r ≡ true → (j : ℕ) → j < length (joinedPlaces (positionsIn s) r) → Placed s (getD (joinedPlaces (positionsIn s) r) j 0)
+          own : inRange (positionsIn s) r ≡ true → (j : ℕ) → j < length (joinedPlaces (positionsIn s) r)
+              → Placed s (getD (joinedPlaces (positionsIn s) r) j 0)
           own t j u =
               let (f, k) = places-inside s r (h .accepted) (λ q v. ltb-true _ _ (every-at (positionsIn s .k) _ t q v)) j u in
               record { fourth = f; inside = k }

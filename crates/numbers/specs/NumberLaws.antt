@@ -41,12 +41,14 @@ signed-same n m a b e = pick (decLt n 2147483648) (decLt m 2147483648)
         let o : _≡_ {A = ℕ} 0 1 = cc in
         absurd (omega arith)
     pick (no u) (no v) =
-        let z : negsuc (4294967295 - n) ≡ negsuc (4294967295 - m) = signed-high n (omega arith) ∙ e ∙ sym (signed-high m (omega arith)) in
+        let z : negsuc (4294967295 - n) ≡ negsuc (4294967295 - m) =
+        signed-high n (omega arith) ∙ e ∙ sym (signed-high m (omega arith)) in
         let o : 4294967295 - n ≡ 4294967295 - m = cc in
         omega arith
 
 -- two files of one length with the same four bytes at a place have the same number there
-pub number-same : (s t : List ℕ) (at : ℕ) → length s ≡ length t → ((i : ℕ) → at ≤ i → i < at + 4 → getD s i 0 ≡ getD t i 0) → numberAt s at ≡ numberAt t at
+pub number-same : (s t : List ℕ) (at : ℕ) → length s ≡ length t → ((i : ℕ) → at ≤ i → i < at + 4 → getD s i 0 ≡ getD t i 0)
+    → numberAt s at ≡ numberAt t at
 unfolding numberAt
 number-same s t at l e =
     let a = e at (omega arith) (omega arith) in

@@ -1,5 +1,6 @@
--- What a search says of the number that it gives, in this order: one turn of it, for the proofs of loops; what is known of a number
--- that was found; what is known where nothing was found; that a search looks at its property's values alone; and `isFound`.
+-- What a search says of the number that it gives, in this order: one turn of it, for the proofs of loops; what is known of a
+-- number that was found; what is known where nothing was found; that a search looks at its property's values alone; and
+-- `isFound`.
 use Prim.Native.Nat.{ℕ, zero, suc, _+_, _-_, _≤_, _<_}
 use mathlib.Core.Path.{_≡_, refl, sym, subst}
 use mathlib.Core.Bool.{Bool, true, false}
@@ -52,13 +53,23 @@ unfolding firstOf foundOr
 first-found f zero from p e = absurd (at-nothing (sym e))
 first-found f (suc n) from p e = pick (f from) refl e (first-found f n (from + 1) p)
   where
-    pick : (b : Bool) → f from ≡ b → foundOr b from (firstOf f n (from + 1)) ≡ At p → (firstOf f n (from + 1) ≡ At p → First f n (from + 1) p) → First f (suc n) from p
+    pick : (b : Bool) → f from ≡ b → foundOr b from (firstOf f n (from + 1)) ≡ At p
+        → (firstOf f n (from + 1) ≡ At p → First f n (from + 1) p)
+        → First f (suc n) from p
     pick true t g rec =
-        let s : from ≡ p = at-same g in
-        record { low = omega arith; high = omega arith; holds = subst (λ (x : ℕ). f x ≡ true) s t; fails = λ q l u. absurd (omega arith) }
+        let s : from ≡ p = at-same g in record {
+          low = omega arith;
+          high = omega arith;
+          holds = subst (λ (x : ℕ). f x ≡ true) s t;
+          fails = λ q l u. absurd (omega arith);
+        }
     pick false t g rec =
-        let r = rec g in
-        record { low = omega arith; high = omega arith; holds = r .holds; fails = from-next (λ (q : ℕ). f q ≡ false) from p t (r .fails) }
+        let r = rec g in record {
+          low = omega arith;
+          high = omega arith;
+          holds = r .holds;
+          fails = from-next (λ (q : ℕ). f q ≡ false) from p t (r .fails);
+        }
 
 -- ---- nothing was found
 pub first-nothing : (f : ℕ → Bool) (n from : ℕ) → firstOf f n from ≡ Nothing → (q : ℕ) → from ≤ q → q < from + n → f q ≡ false
@@ -66,7 +77,9 @@ unfolding firstOf foundOr
 first-nothing f zero from e q l u = absurd (omega arith)
 first-nothing f (suc n) from e q l u = pick (f from) refl e (first-nothing f n (from + 1))
   where
-    pick : (b : Bool) → f from ≡ b → foundOr b from (firstOf f n (from + 1)) ≡ Nothing → (firstOf f n (from + 1) ≡ Nothing → (x : ℕ) → from + 1 ≤ x → x < from + 1 + n → f x ≡ false) → f q ≡ false
+    pick : (b : Bool) → f from ≡ b → foundOr b from (firstOf f n (from + 1)) ≡ Nothing
+        → (firstOf f n (from + 1) ≡ Nothing → (x : ℕ) → from + 1 ≤ x → x < from + 1 + n → f x ≡ false)
+        → f q ≡ false
     pick true t g rec = absurd (at-nothing g)
     pick false t g rec = from-next (λ (x : ℕ). f x ≡ false) from (from + suc n) t (λ x a b. rec g x a (omega arith)) q l u
 

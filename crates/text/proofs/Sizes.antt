@@ -1,5 +1,5 @@
--- A signed 32-bit value as the code sees it, by its bits: its size, by way of -1 minus it where it is negative, which always fits; and
--- its text by its size.
+-- A signed 32-bit value as the code sees it, by its bits: its size, by way of -1 minus it where it is negative, which always
+-- fits; and its text by its size.
 use Prim.Native.Nat.{ℕ, suc, _^_, _<_, _≤_}
 use mathlib.Core.Bool.{true, false}
 use mathlib.Core.List.{[], _∷_, _++_}
@@ -43,7 +43,8 @@ negative z f t =
     let fits : SFits w32 (negsuc 0 -ℤ seen z) = rw minus (record { sfits = n .1 }) in
     record { less = n .0; small = n .1; is = n .2; fits = fits; back = toZ-ofZ fits ∙ minus }
 
-pub negative-text : (z : ℤ) (m : ℕ) → SFits w32 z → ltZ (seen z) (pos 0) ≡ true → m ≡ natAbs (seen z) → (45 ∷ []) ++ textOf m ≡ signedText z
+pub negative-text : (z : ℤ) (m : ℕ) → SFits w32 z → ltZ (seen z) (pos 0) ≡ true → m ≡ natAbs (seen z)
+    → (45 ∷ []) ++ textOf m ≡ signedText z
 negative-text z m f t e =
     let n = negative z f t in
     ap (λ (k : ℕ). (45 ∷ []) ++ textOf k) (e ∙ ap natAbs (toZ-ofZ f)) ∙ sym (signed-negative z (n .less) (n .is))

@@ -1,5 +1,5 @@
--- Laws of numbers in decimal, in this order: the two cases of the digits; what `io::decimal` gives is these digits; how many there are at
--- most; the two cases of a signed value, and how long the text of a file's value is at most.
+-- Laws of numbers in decimal, in this order: the two cases of the digits; what `io::decimal` gives is these digits; how many
+-- there are at most; the two cases of a signed value, and how long the text of a file's value is at most.
 use Prim.Native.Nat.{ℕ, zero, suc, _+_, _*_, _-_, _/_, _%_, _^_, _≤_, _<_}
 use mathlib.Core.List.{List, [], _∷_, _++_}
 use mathlib.Core.Path.{_≡_, refl, sym, ap, _∙_, subst}
@@ -71,7 +71,8 @@ unfolding textIn
 text-length zero k n h = omega arith
 text-length (suc most) k n h = pick (decLt n 10) k h (text-length most)
   where
-    pick : Dec (n < 10) → (k : ℕ) → n < 10 ^ suc k → ((j m : ℕ) → m < 10 ^ suc j → length (textIn most m) ≤ suc j) → length (textIn (suc most) n) ≤ suc k
+    pick : Dec (n < 10) → (k : ℕ) → n < 10 ^ suc k → ((j m : ℕ) → m < 10 ^ suc j → length (textIn most m) ≤ suc j)
+        → length (textIn (suc most) n) ≤ suc k
     pick (yes p) k h rec = omega (arith, ap length (text-small most n p))
     pick (no p) zero h rec = absurd (omega arith)
     pick (no p) (suc j) h rec =
@@ -107,7 +108,9 @@ signed-length n = pick (decLt n 2147483648)
   where
     pick : Dec (n < 2147483648) → length (signedText (signed n)) ≤ 11
     pick (yes p) = subst (λ (z : ℤ). length (signedText z) ≤ 11) (signed-low n p) (whole-length n (omega arith))
-    pick (no p) = subst (λ (z : ℤ). length (signedText z) ≤ 11) (signed-high n (omega arith)) (negative-length (4294967295 - n) (omega arith))
+    pick (no p) =
+        subst (λ (z : ℤ). length (signedText z) ≤ 11) (signed-high n (omega arith))
+        (negative-length (4294967295 - n) (omega arith))
 
 pub value-length : (s : List ℕ) (at : ℕ) → length (signedText (valueAt s at)) ≤ 11
 unfolding valueAt

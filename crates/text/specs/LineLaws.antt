@@ -31,9 +31,14 @@ pub spaced-none : (s places : List ℕ) → spacedText (valuesAt s places 0) ≡
 unfolding spacedText valuesAt
 spaced-none s places = refl
 
-pub spaced-more : (s places : List ℕ) (i : ℕ) → i < length places → spacedText (valuesAt s places i) ++ fieldText i (valueAt s (getD places i 0)) ≡ spacedText (valuesAt s places (i + 1))
+pub spaced-more : (s places : List ℕ) (i : ℕ) → i < length places
+    → spacedText (valuesAt s places i) ++ fieldText i (valueAt s (getD places i 0)) ≡ spacedText (valuesAt s places (i + 1))
 unfolding valuesAt
 spaced-more s places i h =
-    let n : length (map (valueAt s) (take i places)) ≡ i = length-map (valueAt s) (take i places) ∙ length-take-le i places (omega arith) in
-    let t : map (valueAt s) (take (i + 1) places) ≡ map (valueAt s) (take i places) ++ (valueAt s (getD places i 0) ∷ []) = rw (add-one, take-suc places i 0) (map-append (valueAt s) (take i places) (getD places i 0 ∷ [])) in
-    sym (ap spacedText t ∙ spaced-next (map (valueAt s) (take i places)) (valueAt s (getD places i 0)) ∙ ap (λ (k : ℕ). spacedText (map (valueAt s) (take i places)) ++ fieldText k (valueAt s (getD places i 0))) n)
+    let n : length (map (valueAt s) (take i places)) ≡ i =
+    length-map (valueAt s) (take i places) ∙ length-take-le i places (omega arith) in
+    let t : map (valueAt s) (take (i + 1) places) ≡ map (valueAt s) (take i places) ++ (valueAt s (getD places i 0) ∷ []) =
+    rw (add-one, take-suc places i 0) (map-append (valueAt s) (take i places) (getD places i 0 ∷ [])) in
+    sym (ap spacedText t
+    ∙ spaced-next (map (valueAt s) (take i places)) (valueAt s (getD places i 0))
+    ∙ ap (λ (k : ℕ). spacedText (map (valueAt s) (take i places)) ++ fieldText k (valueAt s (getD places i 0))) n)

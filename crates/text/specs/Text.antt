@@ -1,5 +1,5 @@
--- The program's text in bytes (document 01, "The program"): numbers in signed decimal, the line of a record, the last line and the line
--- of a refusal; a text laid over an area; and a table that holds the text of each value of a file.
+-- The program's text in bytes (document 01, "The program"): numbers in signed decimal, the line of a record, the last line and
+-- the line of a refusal; a text laid over an area; and a table that holds the text of each value of a file.
 use Prim.Native.Nat.{ℕ, zero, suc, _+_, _*_, _/_, _%_, _≤_}
 use mathlib.Core.Bool.{Bool, true, false, cond}
 use mathlib.Core.List.{List, [], _∷_, _++_, map}
@@ -56,7 +56,8 @@ stoppedText false = []
 -- the last line: whether the step limit stopped the run, its lookups, its records, the rows marked, and its steps
 unfoldable pub summaryText : Bool → ℕ → ℕ → ℕ → ℕ → List ℕ
 summaryText stopped lookups records marked steps =
-    stoppedText stopped ++ countText (bytesOf "lookups ") lookups ++ countText (bytesOf " results ") records ++ countText (bytesOf " marked ") marked ++ countText (bytesOf " steps ") steps ++ bytesOf "\n"
+    stoppedText stopped ++ countText (bytesOf "lookups ") lookups ++ countText (bytesOf " results ") records
+    ++ countText (bytesOf " marked ") marked ++ countText (bytesOf " steps ") steps ++ bytesOf "\n"
 
 -- the line of a refusal: its number and its place
 unfoldable pub refusedText : ℕ → ℕ → List ℕ

@@ -49,7 +49,10 @@ shared-slice-read-t31 : tie.Need-shared-slice-read-t31
 shared-slice-read-t31 c = search needs
 
 returns : tie.Need-returns
-returns c = rw (c .before .before .before .before .before .before .before .before .before .before .before .before .before .next-of .ensures)
+returns c =
+    let next-of =
+    c .before .before .before .before .before .before .before .before .before .before .before .before .before .next-of in
+    rw (next-of .ensures)
 
 pub state-in-spec : {M : Type 1} → statement M
 state-in-spec =

@@ -52,7 +52,23 @@ table-mask-requires-8 : tie.Need-table-mask-requires-8
 table-mask-requires-8 c κs = search needs
 
 returns : tie.Need-returns
-returns c = rw (c .before .before .before .before .before .before .before .table-mask .ensures, c .before .before .before .before .before .before .table-mask2 .ensures, c .before .before .before .before .before .table-mask3 .ensures, c .before .before .before .before .table-mask4 .ensures, c .before .before .before .table-mask5 .ensures, c .before .before .table-mask6 .ensures, c .before .table-mask7 .ensures, c .table-mask8 .ensures)
+returns c =
+    let table-mask6 = c .before .before .table-mask6 in
+    let table-mask5 = c .before .before .before .table-mask5 in
+    let at-table-mask4 = c .before .before .before .before in
+    let table-mask3 = at-table-mask4 .before .table-mask3 in
+    let table-mask2 = at-table-mask4 .before .before .table-mask2 in
+    let table-mask = at-table-mask4 .before .before .before .table-mask in
+    rw (
+      table-mask .ensures,
+      table-mask2 .ensures,
+      table-mask3 .ensures,
+      at-table-mask4 .table-mask4 .ensures,
+      table-mask5 .ensures,
+      table-mask6 .ensures,
+      c .before .table-mask7 .ensures,
+      c .table-mask8 .ensures,
+    )
 
 pub plan-masks-spec : {M : Type 1} → statement M
 plan-masks-spec =

@@ -26,7 +26,10 @@ refused-with-requires c κs = search needs
 
 returns : tie.Need-returns
 unfolding readAnswer
-returns c = c .refused-with .ensures ∙ read-refused _ _ _ (c .before .before .verdict .given .1) ∙ ap readContents (c .before .before .before .before .read-contents .ensures)
+returns c =
+    let verdict = c .before .before .verdict in
+    let read-contents = c .before .before .before .before .read-contents in
+    c .refused-with .ensures ∙ read-refused _ _ _ (verdict .given .1) ∙ ap readContents (read-contents .ensures)
 
 enum-told : tie.Need-enum-told
 enum-told c = search needs
@@ -35,7 +38,10 @@ plan-masks-requires : tie.Need-plan-masks-requires
 plan-masks-requires c κs = search needs
 
 parents-of-requires : tie.Need-parents-of-requires
-parents-of-requires c κs = omega (arith, contents-few (now (c .before .before .before .before .before .before .before .args .file)), ap (λ (x : Contents). x .k) (c .before .before .before .before .before .read-contents .ensures))
+parents-of-requires c κs =
+    let at-read-contents = c .before .before .before .before .before in
+    let args = at-read-contents .before .before .args in
+    omega (arith, contents-few (now (args .file)), ap (λ (x : Contents). x .k) (at-read-contents .read-contents .ensures))
 
 enum-known-lacking : tie.Need-enum-known-lacking
 enum-known-lacking c = search needs
@@ -45,20 +51,38 @@ refused-with-requires-2 c κs = search needs
 
 returns-2 : tie.Need-returns-2
 unfolding readAnswer planParents
-returns-2 c = let parents : planParents (c .before .before .before .before .before .before .before .before .before .before .read-contents .result) ≡ c .before .before .before .before .parents-of .result = sym (c .before .before .before .before .parents-of .ensures ∙ ap (λ (m : List ℕ). parentsOf m (c .before .before .before .before .before .before .before .before .before .before .read-contents .result .k)) (c .before .before .before .before .before .plan-masks .ensures ∙ masks-given _ _ (c .before .before .before .before .before .before .before .before .before .before .read-contents .ensures) (c .before .before .before .before .before .before .before .before .enum-told .given .1))) in
+returns-2 c =
+    let lacking = c .before .before .lacking in
+    let at-parents-of = c .before .before .before .before in
+    let parents-of = at-parents-of .parents-of in
+    let plan-masks = at-parents-of .before .plan-masks in
+    let at-enum-told = at-parents-of .before .before .before .before in
+    let enum-told = at-enum-told .enum-told in
+    let read-contents = at-enum-told .before .before .read-contents in
+    let parents : planParents (read-contents .result) ≡ parents-of .result = sym (parents-of .ensures
+    ∙ ap (λ (m : List ℕ). parentsOf m (read-contents .result .k))
+    (plan-masks .ensures ∙ masks-given _ _ (read-contents .ensures) (enum-told .given .1))) in
     c .refused-with2 .ensures
-    ∙ read-lacking _ _ (c .before .before .before .before .before .before .before .before .enum-told .given .1) (ap (λ (p : Parents). p .lacking) parents ∙ c .before .before .lacking .given .1)
-    ∙ ap readContents (c .before .before .before .before .before .before .before .before .before .before .read-contents .ensures)
+    ∙ read-lacking _ _ (enum-told .given .1) (ap (λ (p : Parents). p .lacking) parents ∙ lacking .given .1)
+    ∙ ap readContents (read-contents .ensures)
 
 enum-told-2 : tie.Need-enum-told-2
 enum-told-2 c = search needs
 
 returns-3 : tie.Need-returns-3
 unfolding readAnswer planParents
-returns-3 c = let parents : planParents (c .before .before .before .before .before .before .before .before .before .read-contents .result) ≡ c .before .before .before .parents-of .result = sym (c .before .before .before .parents-of .ensures ∙ ap (λ (m : List ℕ). parentsOf m (c .before .before .before .before .before .before .before .before .before .read-contents .result .k)) (c .before .before .before .before .plan-masks .ensures ∙ masks-given _ _ (c .before .before .before .before .before .before .before .before .before .read-contents .ensures) (c .before .before .before .before .before .before .before .enum-told .given .1))) in
-    ap (acceptedWith (c .before .before .before .before .before .before .before .before .before .read-contents .result)) (sym parents)
-    ∙ read-accepted _ (c .before .before .before .before .before .before .before .enum-told .given .1) (ap (λ (p : Parents). p .lacking) parents ∙ c .before .enum-told2 .given .1)
-    ∙ ap readContents (c .before .before .before .before .before .before .before .before .before .read-contents .ensures)
+returns-3 c =
+    let parents-of = c .before .before .before .parents-of in
+    let at-plan-masks = c .before .before .before .before in
+    let enum-told = at-plan-masks .before .before .before .enum-told in
+    let read-contents = at-plan-masks .before .before .before .before .before .read-contents in
+    let read-contents-result = read-contents .result in
+    let parents : planParents read-contents-result ≡ parents-of .result = sym (parents-of .ensures
+    ∙ ap (λ (m : List ℕ). parentsOf m (read-contents-result .k))
+    (at-plan-masks .plan-masks .ensures ∙ masks-given _ _ (read-contents .ensures) (enum-told .given .1))) in
+    ap (acceptedWith read-contents-result) (sym parents)
+    ∙ read-accepted _ (enum-told .given .1) (ap (λ (p : Parents). p .lacking) parents ∙ c .before .enum-told2 .given .1)
+    ∙ ap readContents (read-contents .ensures)
 
 pub read-spec : {M : Type 1} → statement M
 read-spec =

@@ -23,10 +23,17 @@ enum-told : tie.Need-enum-told
 enum-told c = search needs
 
 positions-of-requires : tie.Need-positions-of-requires
-positions-of-requires c κs = few-given _ _ (c .before .before .before .read .ensures) (c .before .enum-told .given .1)
+positions-of-requires c κs =
+    let read = c .before .before .before .read in
+    few-given _ _ (read .ensures) (c .before .enum-told .given .1)
 
 run-job-requires : tie.Need-run-job-requires
-run-job-requires c κs = record { accepted = ap (λ (a : Reading). a .verdict) (sym (c .before .before .before .before .read .ensures)) ∙ c .before .before .enum-told .given .1; positions = c .positions-of .ensures ∙ ap (λ (a : Reading). positionsOf (a .job)) (c .before .before .before .before .read .ensures) }
+run-job-requires c κs =
+    let enum-told = c .before .before .enum-told in
+    let read = c .before .before .before .before .read in record {
+      accepted = ap (λ (a : Reading). a .verdict) (sym (read .ensures)) ∙ enum-told .given .1;
+      positions = c .positions-of .ensures ∙ ap (λ (a : Reading). positionsOf (a .job)) (read .ensures);
+    }
 
 returns-2 : tie.Need-returns-2
 returns-2 c = search needs

@@ -13,7 +13,12 @@ cast-least : tie.Need-cast-least
 cast-least c = search needs
 
 mul-least : tie.Need-mul-least
-mul-least c = let r : c .before .before .before .before .before .args .after .records - c .before .before .before .before .before .args .before .records ≤ 4294967296 = let u : c .before .before .before .before .before .args .after .records < 4294967296 = search needs in omega arith in omega (arith, mul-le-mul (c .before .before .before .before .before .pre) r)
+mul-least c =
+    let args = c .before .before .before .before .before .args in
+    let r : args .after .records - args .before .records ≤ 4294967296 =
+    let u : args .after .records < 4294967296 = search needs in omega arith in
+    let pre = c .before .before .before .before .before .pre in
+    omega (arith, mul-le-mul pre r)
 
 least-requires : tie.Need-least-requires
 least-requires c κs = search needs

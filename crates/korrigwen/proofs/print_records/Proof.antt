@@ -9,7 +9,8 @@ use Rattle.korrigwen.proofs.print_records.Statement.{statement}
 use Rattle.korrigwen.proofs.print_records.Tie as tie
 
 abbrev Inv-loop : tie.InvT-loop
-Inv-loop file g cells sizes area end out₀ filled k from₀ at₀ out from at = (at ≤ length out) × (length out ≡ length out₀) × (from ≤ end)
+Inv-loop file g cells sizes area end out₀ filled k from₀ at₀ out from at =
+    (at ≤ length out) × (length out ≡ length out₀) × (from ≤ end)
 
 abbrev μ-loop : tie.MeasureT-loop
 μ-loop file g cells sizes area end out₀ filled k from₀ at₀ out from at = end - from
@@ -21,10 +22,18 @@ sub-loop : tie.Need-sub-loop Inv-loop μ-loop
 sub-loop c = let f = c .loop .inv .2 in omega arith
 
 add-print-record : tie.Need-add-print-record Inv-loop μ-loop
-add-print-record c = let f = c .before .loop .inv .2 in let e = c .before .before .before .before .before .before .before .pre .1 .2 in omega arith
+add-print-record c =
+    let f = c .before .loop .inv .2 in
+    let pre = c .before .before .before .before .before .before .before .pre in
+    let e = pre .1 .2 in
+    omega arith
 
 mul-print-record : tie.Need-mul-print-record Inv-loop μ-loop
-mul-print-record c = let f = c .before .loop .inv .2 in let e = c .before .before .before .before .before .before .before .pre .1 .2 in omega arith
+mul-print-record c =
+    let f = c .before .loop .inv .2 in
+    let pre = c .before .before .before .before .before .before .before .pre in
+    let e = pre .1 .2 in
+    omega arith
 
 sub-print-record : tie.Need-sub-print-record Inv-loop μ-loop
 sub-print-record c = omega arith
@@ -33,19 +42,44 @@ part-print-record-start : tie.Need-part-print-record-start Inv-loop μ-loop
 part-print-record-start c = omega arith
 
 part-print-record-end : tie.Need-part-print-record-end Inv-loop μ-loop
-part-print-record-end c = let f = c .before .loop .inv .2 in let e = c .before .before .before .before .before .before .before .pre .1 .2 in omega arith
+part-print-record-end c =
+    let f = c .before .loop .inv .2 in
+    let pre = c .before .before .before .before .before .before .before .pre in
+    let e = pre .1 .2 in
+    omega arith
 
 print-record-requires : tie.Need-print-record-requires Inv-loop μ-loop
-print-record-requires c κs = let l = c .before .before .before .loop .inv .1 in let a = c .before .before .before .loop .inv .0 in (c .before .before .before .before .before .before .before .before .before .pre .0, omega arith)
+print-record-requires c κs =
+    let loop = c .before .before .before .loop in
+    let a = loop .inv .0 in
+    let l = loop .inv .1 in
+    let pre = c .before .before .before .before .before .before .before .before .before .pre in
+    (pre .0, omega arith)
 
 add-from : tie.Need-add-from Inv-loop μ-loop
-add-from c = let f = c .before .before .before .before .before .before .loop .inv .2 in let e = c .before .before .before .before .before .before .before .before .before .before .before .before .pre .1 .2 in omega arith
+add-from c =
+    let at-loop = c .before .before .before .before .before .before in
+    let f = at-loop .loop .inv .2 in
+    let pre = at-loop .before .before .before .before .before .before .pre in
+    let e = pre .1 .2 in
+    omega arith
 
 loop-less : tie.Need-loop-less Inv-loop μ-loop
-loop-less c = let f = c .before .before .before .before .before .before .loop .inv .2 in let some = job-sound _ _ [] (c .before .before .before .before .before .before .before .before .before .before .before .before .pre .0 .0) .some in omega arith
+loop-less c =
+    let at-loop = c .before .before .before .before .before .before in
+    let f = at-loop .loop .inv .2 in
+    let pre = at-loop .before .before .before .before .before .before .pre in
+    let some = job-sound _ _ [] (pre .0 .0) .some in
+    omega arith
 
 loop-again : tie.Need-loop-again Inv-loop μ-loop
-loop-again c = let f = c .before .before .before .before .before .before .loop .inv .2 in let r = c .before .before .print-record .ensures in let same = c .before .before .print-record .kept .1 .1 .1 .1 .1 .0 in (omega arith, same ∙ c .before .before .before .before .before .before .loop .inv .1, omega arith)
+loop-again c =
+    let print-record = c .before .before .print-record in
+    let r = print-record .ensures in
+    let same = print-record .kept .1 .1 .1 .1 .1 .0 in
+    let loop = c .before .before .before .before .before .before .loop in
+    let f = loop .inv .2 in
+    (omega arith, same ∙ loop .inv .1, omega arith)
 
 same-length : tie.Need-same-length Inv-loop μ-loop
 same-length c = c .before .loop .inv .1

@@ -23,7 +23,11 @@ array-share-prefix-out : tie.Need-array-share-prefix-out
 array-share-prefix-out c = search needs
 
 slice-aggregate-write-all : tie.Need-slice-aggregate-write-all
-slice-aggregate-write-all c = let l : length (c .before .before .put-refused .last .1 .1 .0) ≡ 100 = search needs in let u = c .before .before .put-refused .ensures .1 in sym (length-take-le _ _ (omega arith))
+slice-aggregate-write-all c =
+    let put-refused = c .before .before .put-refused in
+    let u = put-refused .ensures .1 in
+    let l : length (put-refused .last .1 .1 .0) ≡ 100 = search needs in
+    sym (length-take-le _ _ (omega arith))
 
 write-all-requires : tie.Need-write-all-requires
 write-all-requires c κs = search needs

@@ -19,7 +19,13 @@ slice-reshare-prefix-write-all : tie.Need-slice-reshare-prefix-write-all
 slice-reshare-prefix-write-all c = search needs
 
 slice-aggregate-write-all : tie.Need-slice-aggregate-write-all
-slice-aggregate-write-all c = let u = c .before .before .before .put-summary .ensures .1 in let r = c .before .before .before .before .before .before .room-for-line .ensures in let l = c .before .before .before .put-summary .kept .1 .1 .1 .1 .1 .0 in sym (length-take-le _ _ (omega arith))
+slice-aggregate-write-all c =
+    let put-summary = c .before .before .before .put-summary in
+    let u = put-summary .ensures .1 in
+    let l = put-summary .kept .1 .1 .1 .1 .1 .0 in
+    let room-for-line = c .before .before .before .before .before .before .room-for-line in
+    let r = room-for-line .ensures in
+    sym (length-take-le _ _ (omega arith))
 
 write-all-requires : tie.Need-write-all-requires
 write-all-requires c κs = search needs

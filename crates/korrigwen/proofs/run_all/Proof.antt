@@ -8,7 +8,8 @@ use Rattle.korrigwen.proofs.run_all.Statement.{statement}
 use Rattle.korrigwen.proofs.run_all.Tie as tie
 
 abbrev Inv-loop : tie.InvT-loop
-Inv-loop file g cells sizes marks₀ area₀ out₀ t₀ calls₀ marks area out t calls = (t .filled ≤ length out) × (length out ≡ 65536) × (length area ≡ 8192) × (length marks ≡ length marks₀)
+Inv-loop file g cells sizes marks₀ area₀ out₀ t₀ calls₀ marks area out t calls =
+    (t .filled ≤ length out) × (length out ≡ 65536) × (length area ≡ 8192) × (length marks ≡ length marks₀)
 
 abbrev μ-loop : tie.MeasureT-loop
 μ-loop file g cells sizes marks₀ area₀ out₀ t₀ calls₀ marks area out t calls = calls
@@ -23,7 +24,12 @@ slice-aggregate-take-turn-2 : tie.Need-slice-aggregate-take-turn-2 Inv-loop μ-l
 slice-aggregate-take-turn-2 c = sym (c .before .before .before .before .before .before .loop .inv .1)
 
 take-turn-requires : tie.Need-take-turn-requires Inv-loop μ-loop
-take-turn-requires c κs = let l = c .before .before .before .before .before .before .loop .inv .1 in (c .before .before .before .before .before .before .before .before .before .before .before .pre, (omega arith, c .before .before .before .before .before .before .loop .inv .0))
+take-turn-requires c κs =
+    let at-loop = c .before .before .before .before .before .before in
+    let loop = at-loop .loop in
+    let l = loop .inv .1 in
+    let pre = at-loop .before .before .before .before .before .pre in
+    (pre, (omega arith, loop .inv .0))
 
 sub-calls : tie.Need-sub-calls Inv-loop μ-loop
 sub-calls c = omega arith
@@ -32,7 +38,16 @@ loop-less : tie.Need-loop-less Inv-loop μ-loop
 loop-less c = omega arith
 
 loop-again : tie.Need-loop-again Inv-loop μ-loop
-loop-again c = let r = c .before .before .before .before .take-turn .ensures in let o = c .before .before .before .before .take-turn .kept .1 .1 .1 .1 .1 .1 .1 .0 in let a = c .before .before .before .before .take-turn .kept .1 .1 .1 .1 .1 .1 .0 in let m = c .before .before .before .before .take-turn .kept .1 .1 .1 .1 .0 in (omega arith, o ∙ c .before .before .before .before .before .before .before .before .before .before .before .loop .inv .1, a ∙ c .before .before .before .before .before .before .before .before .before .before .before .loop .inv .2, m ∙ c .before .before .before .before .before .before .before .before .before .before .before .loop .inv .3)
+loop-again c =
+    let at-take-turn = c .before .before .before .before in
+    let take-turn = at-take-turn .take-turn in
+    let r = take-turn .ensures in
+    let take-turn-kept = take-turn .kept in
+    let m = take-turn-kept .1 .1 .1 .1 .0 in
+    let a = take-turn-kept .1 .1 .1 .1 .1 .1 .0 in
+    let o = take-turn-kept .1 .1 .1 .1 .1 .1 .1 .0 in
+    let inv = at-take-turn .before .before .before .before .before .before .before .loop .inv in
+    (omega arith, o ∙ inv .1, a ∙ inv .2, m ∙ inv .3)
 
 marked-requires : tie.Need-marked-requires Inv-loop μ-loop
 marked-requires c κs = search needs
@@ -41,7 +56,10 @@ slice-aggregate-print-summary : tie.Need-slice-aggregate-print-summary Inv-loop 
 slice-aggregate-print-summary c = sym (c .before .before .before .before .before .loop .inv .1)
 
 print-summary-requires : tie.Need-print-summary-requires Inv-loop μ-loop
-print-summary-requires c κs = let l = c .before .before .before .before .before .loop .inv .1 in (omega arith, c .before .before .before .before .before .loop .inv .0)
+print-summary-requires c κs =
+    let loop = c .before .before .before .before .before .loop in
+    let l = loop .inv .1 in
+    (omega arith, loop .inv .0)
 
 same-length : tie.Need-same-length Inv-loop μ-loop
 same-length c = c .before .before .before .before .before .before .before .loop .inv .3

@@ -16,7 +16,10 @@ slice-aggregate-put-texts-2 : tie.Need-slice-aggregate-put-texts-2
 slice-aggregate-put-texts-2 c = search needs
 
 put-texts-requires : tie.Need-put-texts-requires
-put-texts-requires c κs = let l : length (now (c .before .before .before .args .file)) ≤ 65535 = job-short _ _ [] (c .before .before .before .pre) in (omega arith, omega arith)
+put-texts-requires c κs =
+    let entry = c .before .before .before in
+    let l : length (now (entry .args .file)) ≤ 65535 = job-short _ _ [] (entry .pre) in
+    (omega arith, omega arith)
 
 slice-aggregate-begin : tie.Need-slice-aggregate-begin
 slice-aggregate-begin c = search needs

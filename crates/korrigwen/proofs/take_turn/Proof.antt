@@ -9,7 +9,10 @@ run-requires : tie.Need-run-requires
 run-requires c κs = search needs
 
 places-filled-requires : tie.Need-places-filled-requires
-places-filled-requires c κs = job-sound _ _ [] (c .before .before .before .before .before .before .before .before .before .before .before .before .before .before .pre .0 .0) .few
+places-filled-requires c κs =
+    let pre =
+    c .before .before .before .before .before .before .before .before .before .before .before .before .before .before .pre in
+    job-sound _ _ [] (pre .0 .0) .few
 
 print-records-requires : tie.Need-print-records-requires
 print-records-requires c κs = search needs

@@ -24,7 +24,9 @@ returns : tie.Need-returns
 returns c = given-taken _ _ (c .before .before .before .state-of .ensures) (c .enum-told .given .1)
 
 returns-2 : tie.Need-returns-2
-returns-2 c = c .misfit-state .ensures ∙ given-none _ _ (c .before .before .before .before .state-of .ensures) _ _ (c .before .enum-told2 .given .1)
+returns-2 c =
+    let state-of = c .before .before .before .before .state-of in
+    c .misfit-state .ensures ∙ given-none _ _ (state-of .ensures) _ _ (c .before .enum-told2 .given .1)
 
 pub given-state-spec : {M : Type 1} → statement M
 given-state-spec =

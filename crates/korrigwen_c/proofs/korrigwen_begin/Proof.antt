@@ -20,7 +20,11 @@ same-length : tie.Need-same-length
 same-length c = search needs
 
 returns : tie.Need-returns
-returns c = begin-is _ _ _ _ _ _ _ (c .before .before .before .before .before .before .begin .ensures) (c .before .before .verdict-number .ensures) (c .before .verdict-place .ensures) (c .state-numbers .ensures)
+returns c =
+    let verdict-number = c .before .before .verdict-number in
+    let begin = c .before .before .before .before .before .before .begin in
+    begin-is _ _ _ _ _ _ _ (begin .ensures) (verdict-number .ensures) (c .before .verdict-place .ensures)
+    (c .state-numbers .ensures)
 
 pub korrigwen-begin-spec : {M : Type 1} → statement M
 korrigwen-begin-spec =

@@ -20,7 +20,11 @@ same-length : tie.Need-same-length
 same-length c = search needs
 
 returns : tie.Need-returns
-returns c = values-is _ _ _ _ _ _ _ _ (c .before .before .before .before .join-values .ensures) (c .before .before .joined-number .ensures) (c .before .joined-place .ensures) (c .joined-columns .ensures)
+returns c =
+    let joined-number = c .before .before .joined-number in
+    let join-values = c .before .before .before .before .join-values in
+    values-is _ _ _ _ _ _ _ _ (join-values .ensures) (joined-number .ensures) (c .before .joined-place .ensures)
+    (c .joined-columns .ensures)
 
 pub korrigwen-join-values-spec : {M : Type 1} → statement M
 korrigwen-join-values-spec =

@@ -14,7 +14,9 @@ verdict-place-requires : tie.Need-verdict-place-requires
 verdict-place-requires c κs = search needs
 
 returns : tie.Need-returns
-returns c = read-is _ _ _ _ (c .before .before .before .before .before .before .read .ensures) (c .before .verdict-number .ensures) (c .verdict-place .ensures)
+returns c =
+    let read = c .before .before .before .before .before .before .read in
+    read-is _ _ _ _ (read .ensures) (c .before .verdict-number .ensures) (c .verdict-place .ensures)
 
 pub korrigwen-read-spec : {M : Type 1} → statement M
 korrigwen-read-spec =

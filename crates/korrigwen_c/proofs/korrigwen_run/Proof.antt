@@ -29,7 +29,13 @@ same-length-2 : tie.Need-same-length-2
 same-length-2 c = search needs
 
 returns : tie.Need-returns
-returns c = run-is _ _ _ _ _ _ _ _ _ _ _ _ _ (c .before .before .before .before .before .before .before .before .before .before .before .before .given-state .ensures) (c .before .before .before .before .before .before .before .before .before .run .ensures) (c .before .before .before .ran-number .ensures) (c .before .before .ran-place .ensures) (c .before .ran-reason .ensures) (c .state-numbers .ensures)
+returns c =
+    let ran-place = c .before .before .ran-place in
+    let ran-number = c .before .before .before .ran-number in
+    let at-run = c .before .before .before .before .before .before .before .before .before in
+    let given-state = at-run .before .before .before .given-state in
+    run-is _ _ _ _ _ _ _ _ _ _ _ _ _ (given-state .ensures) (at-run .run .ensures) (ran-number .ensures) (ran-place .ensures)
+    (c .before .ran-reason .ensures) (c .state-numbers .ensures)
 
 pub korrigwen-run-spec : {M : Type 1} → statement M
 korrigwen-run-spec =

@@ -12,10 +12,14 @@ wide-requires : tie.Need-wide-requires
 wide-requires c κs = search needs
 
 mul-result : tie.Need-mul-result
-mul-result c = omega (arith, mul-le-mul (c .before .before .pre .0) (c .before .before .pre .1))
+mul-result c =
+    let pre = c .before .before .pre in
+    omega (arith, mul-le-mul (pre .0) (pre .1))
 
 returns : tie.Need-returns
-returns c = omega (arith, mul-le-mul (c .before .before .pre .0) (c .before .before .pre .1))
+returns c =
+    let pre = c .before .before .pre in
+    omega (arith, mul-le-mul (pre .0) (pre .1))
 
 pub body-size-spec : {M : Type 1} → statement M
 body-size-spec = tie.close (tie.spec mul-wide wide-requires mul-result returns)

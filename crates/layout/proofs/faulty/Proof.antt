@@ -25,7 +25,10 @@ is-found-requires : tie.Need-is-found-requires
 is-found-requires c κs = search needs
 
 returns-3 : tie.Need-returns-3
-returns-3 c = c .is-found .ensures ∙ ap isFound (c .before .first-equal .ensures) ∙ faulty-repeats _ _ _ (c .before .before .before .if1 .left) (c .before .before .if2 .left)
+returns-3 c =
+    let if2 = c .before .before .if2 in
+    let if1 = c .before .before .before .if1 in
+    c .is-found .ensures ∙ ap isFound (c .before .first-equal .ensures) ∙ faulty-repeats _ _ _ (if1 .left) (if2 .left)
 
 pub faulty-spec : {M : Type 1} → statement M
 faulty-spec =

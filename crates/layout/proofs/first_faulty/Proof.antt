@@ -1,4 +1,5 @@
--- `layout::first_faulty` is the search of its definition. The loop's invariant: what is left of the search finds what the whole one does.
+-- `layout::first_faulty` is the search of its definition. The loop's invariant: what is left of the search finds what the whole
+-- one does.
 use native.Mathlib.Omega.{arith}
 use borrow.Author.Needs.{needs}
 use mathlib.Core.Path.{sym, _∙_, refl, _≡_}
@@ -22,7 +23,9 @@ faulty-requires : tie.Need-faulty-requires Inv-loop μ-loop
 faulty-requires c κs = search needs
 
 returns : tie.Need-returns Inv-loop μ-loop
-returns c = sym (first-here _ _ _ (omega arith) (sym (c .before .faulty .ensures) ∙ c .if1 .taken)) ∙ c .before .before .before .loop .inv .1
+returns c =
+    let loop = c .before .before .before .loop in
+    sym (first-here _ _ _ (omega arith) (sym (c .before .faulty .ensures) ∙ c .if1 .taken)) ∙ loop .inv .1
 
 add-p : tie.Need-add-p Inv-loop μ-loop
 add-p c = search needs
@@ -31,7 +34,9 @@ loop-less : tie.Need-loop-less Inv-loop μ-loop
 loop-less c = search needs
 
 loop-again : tie.Need-loop-again Inv-loop μ-loop
-loop-again c = (omega arith, sym (first-on _ _ _ (omega arith) (sym (c .before .faulty .ensures) ∙ c .if1 .left)) ∙ c .before .before .before .loop .inv .1)
+loop-again c =
+    let loop = c .before .before .before .loop in
+    (omega arith, sym (first-on _ _ _ (omega arith) (sym (c .before .faulty .ensures) ∙ c .if1 .left)) ∙ loop .inv .1)
 
 returns-2 : tie.Need-returns-2 Inv-loop μ-loop
 returns-2 c = sym (first-none _ _ _ (omega arith)) ∙ c .before .loop .inv .1

@@ -24,8 +24,15 @@ outside-requires-2 : tie.Need-outside-requires-2
 outside-requires-2 c κs = search needs
 
 returns-2 : tie.Need-returns-2
-returns-2 c = let l = outside-false _ _ _ (sym (c .before .before .before .before .before .outside .ensures) ∙ c .before .before .before .before .if1 .left) in
-    head-tables _ (l .0) (l .1) (ap (λ (n : ℕ). isOutside n 1 8) (sym (c .before .before .wide .ensures ∙ c .before .before .before .number-at .ensures)) ∙ sym (c .before .outside2 .ensures) ∙ c .if2 .taken)
+returns-2 c =
+    let wide = c .before .before .wide in
+    let number-at = c .before .before .before .number-at in
+    let at-if1 = c .before .before .before .before in
+    let outside = at-if1 .before .outside in
+    let l = outside-false _ _ _ (sym (outside .ensures) ∙ at-if1 .if1 .left) in
+    head-tables _ (l .0) (l .1) (ap (λ (n : ℕ). isOutside n 1 8) (sym (wide .ensures ∙ number-at .ensures))
+    ∙ sym (c .before .outside2 .ensures)
+    ∙ c .if2 .taken)
 
 mul-if3 : tie.Need-mul-if3
 mul-if3 c = let k = outside-false _ _ _ (sym (c .before .outside2 .ensures) ∙ c .if2 .left) in
@@ -36,13 +43,21 @@ add-if3 c = let k = outside-false _ _ _ (sym (c .before .outside2 .ensures) ∙ 
     omega arith
 
 returns-3 : tie.Need-returns-3
-returns-3 c = let l = outside-false _ _ _ (sym (c .before .before .before .before .before .before .outside .ensures) ∙ c .before .before .before .before .before .if1 .left) in
-    let k = outside-false _ _ _ (sym (c .before .before .outside2 .ensures) ∙ c .before .if2 .left) in
+returns-3 c =
+    let outside2 = c .before .before .outside2 in
+    let at-if1 = c .before .before .before .before .before in
+    let outside = at-if1 .before .outside in
+    let l = outside-false _ _ _ (sym (outside .ensures) ∙ at-if1 .if1 .left) in
+    let k = outside-false _ _ _ (sym (outside2 .ensures) ∙ c .before .if2 .left) in
     head-cut _ (l .0) (l .1) (omega arith) (omega arith) (omega arith)
 
 returns-4 : tie.Need-returns-4
-returns-4 c = let l = outside-false _ _ _ (sym (c .before .before .before .before .before .before .outside .ensures) ∙ c .before .before .before .before .before .if1 .left) in
-    let k = outside-false _ _ _ (sym (c .before .before .outside2 .ensures) ∙ c .before .if2 .left) in
+returns-4 c =
+    let outside2 = c .before .before .outside2 in
+    let at-if1 = c .before .before .before .before .before in
+    let outside = at-if1 .before .outside in
+    let l = outside-false _ _ _ (sym (outside .ensures) ∙ at-if1 .if1 .left) in
+    let k = outside-false _ _ _ (sym (outside2 .ensures) ∙ c .before .if2 .left) in
     head-kept _ (l .0) (l .1) (omega arith) (omega arith) (omega arith)
 
 pub head-spec : {M : Type 1} → statement M

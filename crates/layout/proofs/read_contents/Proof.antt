@@ -22,7 +22,10 @@ refused-at-requires : tie.Need-refused-at-requires
 refused-at-requires c κs = search needs
 
 returns : tie.Need-returns
-returns c = c .refused-at .ensures ∙ contents-head _ _ _ (sym (c .before .before .verdict .given .1) ∙ c .before .before .before .before .head .ensures)
+returns c =
+    let verdict = c .before .before .verdict in
+    let head = c .before .before .before .before .head in
+    c .refused-at .ensures ∙ contents-head _ _ _ (sym (verdict .given .1) ∙ head .ensures)
 
 enum-told : tie.Need-enum-told
 enum-told c = search needs
@@ -46,21 +49,49 @@ refused-at-requires-2 : tie.Need-refused-at-requires-2
 refused-at-requires-2 c κs = search needs
 
 returns-2 : tie.Need-returns-2
-returns-2 c = c .refused-at2 .ensures
-    ∙ contents-plan _ _ (sym (c .before .before .before .before .before .before .before .before .enum-told .given .1) ∙ c .before .before .before .before .before .before .before .before .before .before .head .ensures) (sym (c .before .before .f .given .1) ∙ c .before .before .before .before .first-faulty .ensures ∙ ap₂ (λ (plan : List ℕ) (k : ℕ). firstOf (faultyByte plan k) 8 0) (c .before .before .before .before .before .plan-of .ensures) (c .before .before .before .before .before .before .wide .ensures ∙ c .before .before .before .before .before .before .before .number-at .ensures))
+returns-2 c =
+    let f = c .before .before .f in
+    let at-first-faulty = c .before .before .before .before in
+    let plan-of = at-first-faulty .before .plan-of in
+    let wide = at-first-faulty .before .before .wide in
+    let number-at = at-first-faulty .before .before .before .number-at in
+    let at-enum-told = at-first-faulty .before .before .before .before in
+    let head = at-enum-told .before .before .head in
+    c .refused-at2 .ensures
+    ∙ contents-plan _ _ (sym (at-enum-told .enum-told .given .1) ∙ head .ensures)
+    (sym (f .given .1)
+    ∙ at-first-faulty .first-faulty .ensures
+    ∙ ap₂ (λ (plan : List ℕ) (k : ℕ). firstOf (faultyByte plan k) 8 0) (plan-of .ensures) (wide .ensures ∙ number-at .ensures))
 
 enum-told-2 : tie.Need-enum-told-2
 enum-told-2 c = search needs
 
 read-entries-requires : tie.Need-read-entries-requires
-read-entries-requires c κs = let h = head-accepted _ (sym (c .before .before .before .before .before .before .enum-told .given .1) ∙ c .before .before .before .before .before .before .before .before .head .ensures) in
-    let k = c .before .before .before .before .wide .ensures ∙ c .before .before .before .before .before .number-at .ensures in
+read-entries-requires c κs =
+    let at-wide = c .before .before .before .before in
+    let number-at = at-wide .before .number-at in
+    let enum-told = at-wide .before .before .enum-told in
+    let head = at-wide .before .before .before .before .head in
+    let h = head-accepted _ (sym (enum-told .given .1) ∙ head .ensures) in
+    let k = at-wide .wide .ensures ∙ number-at .ensures in
     (omega arith, omega arith, h .most)
 
 returns-3 : tie.Need-returns-3
-returns-3 c = c .read-entries .ensures
-    ∙ ap₂ (λ (plan : List ℕ) (k : ℕ). entriesFrom (now (c .before .before .before .before .before .before .before .before .before .before .before .args .s)) k plan k 0 (12 + 16 * k) noEntries) (c .before .before .before .before .plan-of .ensures) (c .before .before .before .before .before .wide .ensures ∙ c .before .before .before .before .before .before .number-at .ensures)
-    ∙ contents-entries _ (sym (c .before .before .before .before .before .before .before .enum-told .given .1) ∙ c .before .before .before .before .before .before .before .before .before .head .ensures) (sym (c .before .enum-told2 .given .1) ∙ c .before .before .before .first-faulty .ensures ∙ ap₂ (λ (plan : List ℕ) (k : ℕ). firstOf (faultyByte plan k) 8 0) (c .before .before .before .before .plan-of .ensures) (c .before .before .before .before .before .wide .ensures ∙ c .before .before .before .before .before .before .number-at .ensures))
+returns-3 c =
+    let first-faulty = c .before .before .before .first-faulty in
+    let at-plan-of = c .before .before .before .before in
+    let plan-of = at-plan-of .plan-of in
+    let wide = at-plan-of .before .wide in
+    let number-at = at-plan-of .before .before .number-at in
+    let enum-told = at-plan-of .before .before .before .enum-told in
+    let at-head = at-plan-of .before .before .before .before .before in
+    let args = at-head .before .before .args in
+    c .read-entries .ensures
+    ∙ ap₂ (λ (plan : List ℕ) (k : ℕ). entriesFrom (now (args .s)) k plan k 0 (12 + 16 * k) noEntries) (plan-of .ensures)
+    (wide .ensures ∙ number-at .ensures)
+    ∙ contents-entries _ (sym (enum-told .given .1) ∙ at-head .head .ensures) (sym (c .before .enum-told2 .given .1)
+    ∙ first-faulty .ensures
+    ∙ ap₂ (λ (plan : List ℕ) (k : ℕ). firstOf (faultyByte plan k) 8 0) (plan-of .ensures) (wide .ensures ∙ number-at .ensures))
 
 pub read-contents-spec : {M : Type 1} → statement M
 read-contents-spec =

@@ -1,5 +1,5 @@
--- `layout::read_entries` is its definition. The loop's invariant: what is left of the definition gives what the whole does, and the
--- running end is inside the file.
+-- `layout::read_entries` is its definition. The loop's invariant: what is left of the definition gives what the whole does, and
+-- the running end is inside the file.
 use native.Mathlib.Omega.{arith}
 use borrow.Author.Needs.{needs}
 use mathlib.Core.Path.{sym, _∙_, ap, _≡_}
@@ -14,7 +14,11 @@ use Rattle.layout.proofs.read_entries.Statement.{statement}
 use Rattle.layout.proofs.read_entries.Tie as tie
 
 abbrev Inv-loop : tie.InvT-loop
-Inv-loop s k plan entries₀ end₀ i₀ entries end i = (entriesFrom s k plan (k - i) i end entries ≡ entriesFrom s k plan k 0 (12 + 16 * k) noEntries) × (i ≤ k) × (end ≤ length s) × (length entries ≡ 8)
+Inv-loop s k plan entries₀ end₀ i₀ entries end i =
+    (entriesFrom s k plan (k - i) i end entries ≡ entriesFrom s k plan k 0 (12 + 16 * k) noEntries)
+    × (i ≤ k)
+    × (end ≤ length s)
+    × (length entries ≡ 8)
 
 abbrev μ-loop : tie.MeasureT-loop
 μ-loop s k plan entries₀ end₀ i₀ entries end i = k - i
@@ -44,10 +48,14 @@ stopped-at-requires : tie.Need-stopped-at-requires Inv-loop μ-loop
 stopped-at-requires c κs = search needs
 
 returns : tie.Need-returns Inv-loop μ-loop
-returns c = c .stopped-at .ensures
-    ∙ ap (λ (x : EntryRead). stopped x (c .before .before .before .before .before .loop .i)) (c .before .enum-told .given .1)
-    ∙ sym (entries-stop _ _ _ _ _ _ _ (omega arith) (sym (c .before .enum-told .given .1) ∙ c .before .before .before .read-entry .ensures))
-    ∙ c .before .before .before .before .before .loop .inv .0
+returns c =
+    let enum-told = c .before .enum-told in
+    let read-entry = c .before .before .before .read-entry in
+    let loop = c .before .before .before .before .before .loop in
+    c .stopped-at .ensures
+    ∙ ap (λ (x : EntryRead). stopped x (loop .i)) (enum-told .given .1)
+    ∙ sym (entries-stop _ _ _ _ _ _ _ (omega arith) (sym (enum-told .given .1) ∙ read-entry .ensures))
+    ∙ loop .inv .0
 
 mul-entries : tie.Need-mul-entries Inv-loop μ-loop
 mul-entries c = search needs
@@ -56,7 +64,10 @@ array-set-from-entries : tie.Need-array-set-from-entries Inv-loop μ-loop
 array-set-from-entries c = search needs
 
 body-size-requires : tie.Need-body-size-requires Inv-loop μ-loop
-body-size-requires c κs = let r = judged-right _ _ _ _ (sym (c .before .before .before .read-entry .ensures) ∙ c .before .read .given .1) in (omega arith, r .kept .rows)
+body-size-requires c κs =
+    let read-entry = c .before .before .before .read-entry in
+    let r = judged-right _ _ _ _ (sym (read-entry .ensures) ∙ c .before .read .given .1) in
+    (omega arith, r .kept .rows)
 
 add-end-2 : tie.Need-add-end-2 Inv-loop μ-loop
 add-end-2 c = omega arith
@@ -68,19 +79,26 @@ loop-less : tie.Need-loop-less Inv-loop μ-loop
 loop-less c = search needs
 
 loop-again : tie.Need-loop-again Inv-loop μ-loop
-loop-again c = let read = c .before .before .read .given .1 in
-    let r = judged-right _ _ _ _ (sym (c .before .before .before .before .read-entry .ensures) ∙ read) in (
-      sym (entries-go _ _ _ _ _ _ _ _ (c .body-size .ensures .0) (omega arith) (sym read ∙ c .before .before .before .before .read-entry .ensures)) ∙ c .before .before .before .before .before .before .loop .inv .0,
+loop-again c =
+    let read-given = c .before .before .read in
+    let read = read-given .given .1 in
+    let at-read-entry = c .before .before .before .before in
+    let read-entry = at-read-entry .read-entry in
+    let loop = at-read-entry .before .before .loop in
+    let r = judged-right _ _ _ _ (sym (read-entry .ensures) ∙ read) in (
+      sym (entries-go _ _ _ _ _ _ _ _ (c .body-size .ensures .0) (omega arith) (sym read ∙ read-entry .ensures)) ∙ loop .inv .0,
       omega arith,
       omega arith,
-      simp length-set (c .before .before .before .before .before .before .loop .inv .3),
+      simp length-set (loop .inv .3),
     )
 
 finish-requires : tie.Need-finish-requires Inv-loop μ-loop
 finish-requires c κs = search needs
 
 returns-2 : tie.Need-returns-2 Inv-loop μ-loop
-returns-2 c = c .finish .ensures ∙ sym (entries-end _ _ _ _ _ _ (omega arith)) ∙ c .before .before .loop .inv .0
+returns-2 c =
+    let loop = c .before .before .loop in
+    c .finish .ensures ∙ sym (entries-end _ _ _ _ _ _ (omega arith)) ∙ loop .inv .0
 
 pub read-entries-spec : {M : Type 1} → statement M
 read-entries-spec =

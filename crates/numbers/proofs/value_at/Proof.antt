@@ -16,7 +16,8 @@ as-signed-requires c κs = search needs
 
 returns : tie.Need-returns
 unfolding valueAt
-returns c = toZ-ofZ {w = w32} (record { sfits = c .as-signed .ok }) ∙ c .as-signed .ensures ∙ ap signed (c .before .number-at .ensures)
+returns c =
+    toZ-ofZ {w = w32} (record { sfits = c .as-signed .ok }) ∙ c .as-signed .ensures ∙ ap signed (c .before .number-at .ensures)
 
 pub value-at-spec : {M : Type 1} → statement M
 value-at-spec = tie.close (tie.spec number-at-requires as-signed-requires returns)

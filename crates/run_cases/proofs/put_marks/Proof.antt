@@ -1,4 +1,5 @@
--- `run_cases::put_marks`: from turn to turn the place is within the line, which stays as long. The measure is what is left of the marks.
+-- `run_cases::put_marks`: from turn to turn the place is within the line, which stays as long. The measure is what is left of the
+-- marks.
 use native.Mathlib.Omega.{arith}
 use borrow.Author.Needs.{needs}
 use mathlib.Core.Path.{_∙_, refl, _≡_}
@@ -35,7 +36,10 @@ loop-less : tie.Need-loop-less Inv-loop μ-loop
 loop-less c = search needs
 
 loop-again : tie.Need-loop-again Inv-loop μ-loop
-loop-again c = (omega arith, c .before .before .put-mark .kept .1 .0 ∙ c .before .before .before .before .before .before .loop .inv .1)
+loop-again c =
+    let put-mark = c .before .before .put-mark in
+    let loop = c .before .before .before .before .before .before .loop in
+    (omega arith, put-mark .kept .1 .0 ∙ loop .inv .1)
 
 same-length : tie.Need-same-length Inv-loop μ-loop
 same-length c = omega arith

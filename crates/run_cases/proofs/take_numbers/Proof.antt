@@ -1,4 +1,5 @@
--- `run_cases::take_numbers`: from turn to turn the place is within the list, which stays as long. The measure is what is left of the list.
+-- `run_cases::take_numbers`: from turn to turn the place is within the list, which stays as long. The measure is what is left of
+-- the list.
 use native.Mathlib.Omega.{arith}
 use borrow.Author.Needs.{needs}
 use mathlib.Core.Path.{_∙_, refl, _≡_}
@@ -47,7 +48,9 @@ loop-less : tie.Need-loop-less Inv-loop μ-loop
 loop-less c = rw length-set (omega arith)
 
 loop-again : tie.Need-loop-again Inv-loop μ-loop
-loop-again c = (rw length-set (omega arith), length-set (c .before .before .before .before .loop .numbers) (c .before .before .before .before .loop .i) _ ∙ c .before .before .before .before .loop .inv .1)
+loop-again c =
+    let loop = c .before .before .before .before .loop in
+    (rw length-set (omega arith), length-set (loop .numbers) (loop .i) _ ∙ loop .inv .1)
 
 same-length : tie.Need-same-length Inv-loop μ-loop
 same-length c = search needs

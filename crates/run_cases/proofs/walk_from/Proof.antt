@@ -6,7 +6,8 @@ use Rattle.run_cases.proofs.walk_from.Statement.{statement}
 use Rattle.run_cases.proofs.walk_from.Tie as tie
 
 abbrev Inv-loop : tie.InvT-loop
-Inv-loop label file marks₀ budget size out₀ state₀ goes-on₀ calls₀ marks out state goes-on calls = (length marks ≡ length marks₀) × (length out ≡ length out₀)
+Inv-loop label file marks₀ budget size out₀ state₀ goes-on₀ calls₀ marks out state goes-on calls =
+    (length marks ≡ length marks₀) × (length out ≡ length out₀)
 
 abbrev μ-loop : tie.MeasureT-loop
 μ-loop label file marks₀ budget size out₀ state₀ goes-on₀ calls₀ marks out state goes-on calls = calls
@@ -24,7 +25,11 @@ loop-less : tie.Need-loop-less Inv-loop μ-loop
 loop-less c = search needs
 
 loop-again : tie.Need-loop-again Inv-loop μ-loop
-loop-again c = (c .before .before .before .before .before .walk-on .kept .1 .1 .1 .0 ∙ c .before .before .before .before .before .before .before .before .before .before .loop .inv .0, c .before .before .before .before .before .walk-on .kept .1 .1 .1 .1 .1 .1 .0 ∙ c .before .before .before .before .before .before .before .before .before .before .loop .inv .1)
+loop-again c =
+    let at-walk-on = c .before .before .before .before .before in
+    let walk-on = at-walk-on .walk-on in
+    let loop = at-walk-on .before .before .before .before .before .loop in
+    (walk-on .kept .1 .1 .1 .0 ∙ loop .inv .0, walk-on .kept .1 .1 .1 .1 .1 .1 .0 ∙ loop .inv .1)
 
 same-length : tie.Need-same-length Inv-loop μ-loop
 same-length c = c .before .before .loop .inv .0

@@ -18,7 +18,9 @@ wide-requires : tie.Need-wide-requires
 wide-requires c κs = search needs
 
 add-end : tie.Need-add-end
-add-end c = omega (arith, size-short (c .before .before .before .before .before .before .pre .0) (c .before .before .before .before .before .before .pre .1 .0))
+add-end c =
+    let pre = c .before .before .before .before .before .before .pre in
+    omega (arith, size-short (pre .0) (pre .1 .0))
 
 sub-put-bytes : tie.Need-sub-put-bytes
 sub-put-bytes c = search needs
@@ -27,20 +29,29 @@ part-put-bytes-start : tie.Need-part-put-bytes-start
 part-put-bytes-start c = search needs
 
 part-put-bytes-end : tie.Need-part-put-bytes-end
-part-put-bytes-end c = omega (arith, size-short (c .before .before .before .before .before .before .pre .0) (c .before .before .before .before .before .before .pre .1 .0))
+part-put-bytes-end c =
+    let pre = c .before .before .before .before .before .before .pre in
+    omega (arith, size-short (pre .0) (pre .1 .0))
 
 put-bytes-requires : tie.Need-put-bytes-requires
-put-bytes-requires c κs = let t = part-text (c .before .before .before .before .before .before .before .before .pre .0) (c .before .before .before .before .before .before .before .before .pre .1 .0) (c .before .before .wide .ensures) in
-    let short = text-short (c .before .before .before .before .before .before .before .before .pre .0) (c .before .before .before .before .before .before .before .before .pre .1 .0) in
+put-bytes-requires c κs =
+    let wide = c .before .before .wide in
+    let pre = c .before .before .before .before .before .before .before .before .pre in
+    let t = part-text (pre .0) (pre .1 .0) (wide .ensures) in
+    let short = text-short (pre .0) (pre .1 .0) in
     omega (arith, ap length t)
 
 same-length : tie.Need-same-length
 same-length c = search needs
 
 returns : tie.Need-returns
-returns c = let t = part-text (c .before .before .before .before .before .before .before .before .before .before .before .pre .0) (c .before .before .before .before .before .before .before .before .before .before .before .pre .1 .0) (c .before .before .before .before .before .wide .ensures) in
-    let short = text-short (c .before .before .before .before .before .before .before .before .before .before .before .pre .0) (c .before .before .before .before .before .before .before .before .before .before .before .pre .1 .0) in
-    (laid-as t (c .before .before .put-bytes .ensures), omega (arith, c .before .before .put-bytes .ensures .past, ap length t))
+returns c =
+    let put-bytes = c .before .before .put-bytes in
+    let at-wide = c .before .before .before .before .before in
+    let pre = at-wide .before .before .before .before .before .before .pre in
+    let t = part-text (pre .0) (pre .1 .0) (at-wide .wide .ensures) in
+    let short = text-short (pre .0) (pre .1 .0) in
+    (laid-as t (put-bytes .ensures), omega (arith, put-bytes .ensures .past, ap length t))
 
 pub copy-text-spec : {M : Type 1} → statement M
 copy-text-spec =

@@ -1,4 +1,5 @@
--- `text::magnitude` is the size of its value: z itself where it is not negative, else one more than -1 minus z, which always fits.
+-- `text::magnitude` is the size of its value: z itself where it is not negative, else one more than -1 minus z, which always
+-- fits.
 use mathlib.Core.Path.{sym, ap, _∙_}
 use native.Mathlib.Numerals.{add-one}
 use native.Mathlib.Omega.{arith}

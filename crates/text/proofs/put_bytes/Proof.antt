@@ -32,7 +32,9 @@ loop-less : tie.Need-loop-less Inv-loop μ-loop
 loop-less c = omega arith
 
 loop-again : tie.Need-loop-again Inv-loop μ-loop
-loop-again c = (laid-more _ _ _ _ _ (omega arith) (omega arith) (c .before .before .loop .inv .0), omega arith)
+loop-again c =
+    let loop = c .before .before .loop in
+    (laid-more _ _ _ _ _ (omega arith) (omega arith) (loop .inv .0), omega arith)
 
 add-result : tie.Need-add-result Inv-loop μ-loop
 add-result c = omega arith

@@ -17,7 +17,12 @@ same-length c = search needs
 
 returns : tie.Need-returns
 unfolding countText
-returns c = (laid-then (omega (arith, c .before .before .before .before .before .before .put-bytes .ensures .past)) (c .before .before .before .before .before .before .put-bytes .ensures) (c .before .before .put-number .ensures .0), omega (arith, c .before .before .before .before .before .before .put-bytes .ensures .past))
+returns c =
+    let put-number = c .before .before .put-number in
+    let put-bytes-ensures = c .before .before .before .before .before .before .put-bytes .ensures in (
+      laid-then (omega (arith, put-bytes-ensures .past)) put-bytes-ensures (put-number .ensures .0),
+      omega (arith, put-bytes-ensures .past),
+    )
 
 pub put-count-spec : {M : Type 1} → statement M
 put-count-spec = tie.close (tie.spec put-bytes-requires put-number-requires same-length returns)

@@ -17,7 +17,10 @@ same-length c = search needs
 
 returns : tie.Need-returns
 unfolding fieldText
-returns c = (laid-then (omega arith) (c .before .before .before .before .before .before .put-gap .ensures .0) (c .before .before .copy-text .ensures .0), omega arith)
+returns c =
+    let copy-text = c .before .before .copy-text in
+    let put-gap = c .before .before .before .before .before .before .put-gap in
+    (laid-then (omega arith) (put-gap .ensures .0) (copy-text .ensures .0), omega arith)
 
 pub put-field-spec : {M : Type 1} → statement M
 put-field-spec = tie.close (tie.spec put-gap-requires copy-text-requires same-length returns)

@@ -18,7 +18,10 @@ same-length : tie.Need-same-length
 same-length c = search needs
 
 returns-2 : tie.Need-returns-2
-returns-2 c = (laid-as (gap-later _ (c .before .before .before .before .if1 .left)) (c .before .before .put-byte .ensures), omega (arith, c .before .before .put-byte .ensures .past))
+returns-2 c =
+    let put-byte = c .before .before .put-byte in
+    let if1 = c .before .before .before .before .if1 in
+    (laid-as (gap-later _ (if1 .left)) (put-byte .ensures), omega (arith, put-byte .ensures .past))
 
 pub put-gap-spec : {M : Type 1} → statement M
 put-gap-spec = tie.close (tie.spec returns put-byte-requires same-length returns-2)

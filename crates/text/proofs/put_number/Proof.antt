@@ -18,17 +18,25 @@ slice-aggregate-put-bytes : tie.Need-slice-aggregate-put-bytes
 slice-aggregate-put-bytes c = search needs
 
 put-bytes-requires : tie.Need-put-bytes-requires
-put-bytes-requires c κs = let t = decimal-text _ _ _ (c .before .before .before .before .before .fits .n .fits) (c .before .before .decimal .ensures .1 .0) (c .before .before .decimal .ensures .1 .1) in
-    let short = ten-digits _ (c .before .before .before .before .before .fits .n .fits) in
+put-bytes-requires c κs =
+    let decimal = c .before .before .decimal in
+    let fits = c .before .before .before .before .before .fits in
+    let t = decimal-text _ _ _ (fits .n .fits) (decimal .ensures .1 .0) (decimal .ensures .1 .1) in
+    let short = ten-digits _ (fits .n .fits) in
     omega (arith, ap length t)
 
 same-length : tie.Need-same-length
 same-length c = search needs
 
 returns : tie.Need-returns
-returns c = let t = decimal-text _ _ _ (c .before .before .before .before .before .before .before .before .fits .n .fits) (c .before .before .before .before .before .decimal .ensures .1 .0) (c .before .before .before .before .before .decimal .ensures .1 .1) in
-    let short = ten-digits _ (c .before .before .before .before .before .before .before .before .fits .n .fits) in
-    (laid-as t (c .before .before .put-bytes .ensures), omega (arith, c .before .before .put-bytes .ensures .past, ap length t))
+returns c =
+    let put-bytes = c .before .before .put-bytes in
+    let at-decimal = c .before .before .before .before .before in
+    let decimal = at-decimal .decimal in
+    let fits = at-decimal .before .before .before .fits in
+    let t = decimal-text _ _ _ (fits .n .fits) (decimal .ensures .1 .0) (decimal .ensures .1 .1) in
+    let short = ten-digits _ (fits .n .fits) in
+    (laid-as t (put-bytes .ensures), omega (arith, put-bytes .ensures .past, ap length t))
 
 pub put-number-spec : {M : Type 1} → statement M
 put-number-spec =

@@ -26,7 +26,14 @@ same-length c = search needs
 
 returns : tie.Need-returns
 unfolding refusedText
-returns c = (laid-then (omega arith) (laid-then (omega arith) (c .before .before .before .before .before .before .before .before .before .before .before .put-count .ensures .0) (c .before .before .before .before .before .before .put-count2 .ensures .0)) (c .before .before .put-byte .ensures), omega (arith, c .before .before .put-byte .ensures .past))
+returns c =
+    let put-byte = c .before .before .put-byte in
+    let at-put-count2 = c .before .before .before .before .before .before in
+    let put-count = at-put-count2 .before .before .before .before .before .put-count in (
+      laid-then (omega arith) (laid-then (omega arith) (put-count .ensures .0) (at-put-count2 .put-count2 .ensures .0))
+          (put-byte .ensures),
+      omega (arith, put-byte .ensures .past),
+    )
 
 pub put-refused-spec : {M : Type 1} → statement M
 put-refused-spec =

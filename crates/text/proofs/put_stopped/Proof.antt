@@ -17,7 +17,10 @@ same-length c = search needs
 
 returns : tie.Need-returns
 unfolding stoppedText
-returns c = rw (c .before .before .before .before .before .if1 .taken) (c .before .before .put-bytes .ensures, omega (arith, c .before .before .put-bytes .ensures .past))
+returns c =
+    let put-bytes = c .before .before .put-bytes in
+    let if1 = c .before .before .before .before .before .if1 in
+    rw (if1 .taken) (put-bytes .ensures, omega (arith, put-bytes .ensures .past))
 
 returns-2 : tie.Need-returns-2
 unfolding stoppedText

@@ -39,11 +39,18 @@ put-byte-requires c κs = search needs
 same-length : tie.Need-same-length
 same-length c = search needs
 
+-- Paths in full: with names for them in scope `omega` would have more to read than it reads.
 returns : tie.Need-returns
 unfolding summaryText
-returns c = let a = laid-then (omega arith) (c .before .before .before .before .before .before .before .before .before .before .before .before .before .before .before .before .before .before .before .before .before .before .before .before .before .before .put-stopped .ensures .0) (c .before .before .before .before .before .before .before .before .before .before .before .before .before .before .before .before .before .before .before .before .before .put-count .ensures .0) in
-    let b = laid-then (omega arith) a (c .before .before .before .before .before .before .before .before .before .before .before .before .before .before .before .before .put-count2 .ensures .0) in
-    let d = laid-then (omega arith) b (c .before .before .before .before .before .before .before .before .before .before .before .put-count3 .ensures .0) in
+returns c =
+    let a = laid-then (omega arith) (c .before .before .before .before .before .before .before .before .before .before .before
+    .before .before .before .before .before .before .before .before .before .before .before .before .before .before .before
+    .put-stopped .ensures .0) (c .before .before .before .before .before .before .before .before .before .before .before .before
+    .before .before .before .before .before .before .before .before .before .put-count .ensures .0) in
+    let b = laid-then (omega arith) a (c .before .before .before .before .before .before .before .before .before .before .before
+    .before .before .before .before .before .put-count2 .ensures .0) in
+    let d = laid-then (omega arith) b
+    (c .before .before .before .before .before .before .before .before .before .before .before .put-count3 .ensures .0) in
     let e = laid-then (omega arith) d (c .before .before .before .before .before .before .put-count4 .ensures .0) in
     (laid-then (omega arith) e (c .before .before .put-byte .ensures), omega (arith, c .before .before .put-byte .ensures .past))
 

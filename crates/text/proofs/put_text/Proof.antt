@@ -35,7 +35,13 @@ same-length-2 : tie.Need-same-length-2
 same-length-2 c = search needs
 
 returns : tie.Need-returns
-returns c = cell-laid _ _ (c .before .before .before .before .before .before .before .before .args .sizes .now) _ (toZ-ofZ {w = w32} (record { sfits = c .before .before .before .before .value-at .ok }) ∙ c .before .before .before .before .value-at .ensures) (c .before .before .put-value .ensures .0)
+returns c =
+    let put-value = c .before .before .put-value in
+    let at-value-at = c .before .before .before .before in
+    let value-at = at-value-at .value-at in
+    let args = at-value-at .before .before .before .before .args in
+    cell-laid _ _ (args .sizes .now) _ (toZ-ofZ {w = w32} (record { sfits = value-at .ok }) ∙ value-at .ensures)
+    (put-value .ensures .0)
 
 pub put-text-spec : {M : Type 1} → statement M
 put-text-spec =

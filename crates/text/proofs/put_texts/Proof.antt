@@ -9,7 +9,12 @@ use Rattle.text.proofs.put_texts.Statement.{statement}
 use Rattle.text.proofs.put_texts.Tie as tie
 
 abbrev Inv-loop : tie.InvT-loop
-Inv-loop file cells₀ sizes₀ n w₀ cells sizes w = (cells ≡ cellsAfter file cells₀ w) × (sizes ≡ sizesAfter file sizes₀ w) × (w ≤ n) × (length cells ≡ length cells₀) × (length sizes ≡ length sizes₀)
+Inv-loop file cells₀ sizes₀ n w₀ cells sizes w =
+    (cells ≡ cellsAfter file cells₀ w)
+    × (sizes ≡ sizesAfter file sizes₀ w)
+    × (w ≤ n)
+    × (length cells ≡ length cells₀)
+    × (length sizes ≡ length sizes₀)
 
 abbrev μ-loop : tie.MeasureT-loop
 μ-loop file cells₀ sizes₀ n w₀ cells sizes w = n - w
@@ -27,7 +32,16 @@ loop-less : tie.Need-loop-less Inv-loop μ-loop
 loop-less c = omega arith
 
 loop-again : tie.Need-loop-again Inv-loop μ-loop
-loop-again c = (cells-next _ _ _ (c .before .before .before .before .before .before .before .before .loop .inv .0) (c .before .before .before .before .put-text .ensures .0), sizes-next _ _ _ (c .before .before .before .before .before .before .before .before .loop .inv .1) (c .before .before .before .before .put-text .ensures .1), omega arith, c .before .before .before .before .put-text .kept .1 .1 .0 ∙ c .before .before .before .before .before .before .before .before .loop .inv .3, c .before .before .before .before .put-text .kept .1 .1 .1 .0 ∙ c .before .before .before .before .before .before .before .before .loop .inv .4)
+loop-again c =
+    let at-put-text = c .before .before .before .before in
+    let put-text = at-put-text .put-text in
+    let inv = at-put-text .before .before .before .before .loop .inv in (
+      cells-next _ _ _ (inv .0) (put-text .ensures .0),
+      sizes-next _ _ _ (inv .1) (put-text .ensures .1),
+      omega arith,
+      put-text .kept .1 .1 .0 ∙ inv .3,
+      put-text .kept .1 .1 .1 .0 ∙ inv .4,
+    )
 
 same-length : tie.Need-same-length Inv-loop μ-loop
 same-length c = c .before .loop .inv .3
@@ -36,8 +50,12 @@ same-length-2 : tie.Need-same-length-2 Inv-loop μ-loop
 same-length-2 c = c .before .loop .inv .4
 
 returns : tie.Need-returns Inv-loop μ-loop
-returns c = let all : c .before .loop .w ≡ length (c .before .before .before .before .before .args .file .now) / 4 = omega arith in
-    rw (← all) (texts-all _ _ _ _ all (omega arith) (omega arith) (c .before .loop .inv .0) (c .before .loop .inv .1), (c .before .loop .inv .0, c .before .loop .inv .1))
+returns c =
+    let loop = c .before .loop in
+    let inv = loop .inv in
+    let args = c .before .before .before .before .before .args in
+    let all : loop .w ≡ length (args .file .now) / 4 = omega arith in
+    rw (← all) (texts-all _ _ _ _ all (omega arith) (omega arith) (inv .0) (inv .1), (inv .0, inv .1))
 
 pub put-texts-spec : {M : Type 1} → statement M
 put-texts-spec =

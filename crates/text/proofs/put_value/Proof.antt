@@ -22,13 +22,28 @@ same-length : tie.Need-same-length
 same-length c = search needs
 
 returns : tie.Need-returns
-returns c = (laid-as (negative-text _ _ (c .before .before .before .before .before .before .before .before .before .before .before .fits .z) (c .before .before .before .before .before .before .before .before .if1 .taken) (c .before .before .before .before .before .before .before .before .before .magnitude .ensures)) (laid-then (omega (arith, c .before .before .before .before .before .before .put-byte .ensures .past)) (c .before .before .before .before .before .before .put-byte .ensures) (c .before .before .put-number .ensures .0)), omega (arith, c .before .before .before .before .before .before .put-byte .ensures .past))
+returns c =
+    let put-number = c .before .before .put-number in
+    let at-put-byte = c .before .before .before .before .before .before in
+    let put-byte-ensures = at-put-byte .put-byte .ensures in
+    let if1 = at-put-byte .before .before .if1 in
+    let magnitude = at-put-byte .before .before .before .magnitude in
+    let fits = at-put-byte .before .before .before .before .before .fits in (
+      laid-as (negative-text _ _ (fits .z) (if1 .taken) (magnitude .ensures))
+          (laid-then (omega (arith, put-byte-ensures .past)) put-byte-ensures (put-number .ensures .0)),
+      omega (arith, put-byte-ensures .past),
+    )
 
 same-length-2 : tie.Need-same-length-2
 same-length-2 c = search needs
 
 returns-2 : tie.Need-returns-2
-returns-2 c = (laid-as (whole-text _ _ (c .before .before .before .before .before .before .before .fits .z) (c .before .before .before .before .if1 .left) (c .before .before .before .before .before .magnitude .ensures)) (c .before .before .put-number2 .ensures .0), omega arith)
+returns-2 c =
+    let put-number2 = c .before .before .put-number2 in
+    let at-if1 = c .before .before .before .before in
+    let magnitude = at-if1 .before .magnitude in
+    let fits = at-if1 .before .before .before .fits in
+    (laid-as (whole-text _ _ (fits .z) (at-if1 .if1 .left) (magnitude .ensures)) (put-number2 .ensures .0), omega arith)
 
 pub put-value-spec : {M : Type 1} → statement M
 put-value-spec =
