@@ -1,5 +1,5 @@
--- The first places of one list copied over the front of another, as a loop that copies leaves it: one place more, what stands
--- where, and the length.
+-- The first places of one list copied over the front of another, as a loop that copies leaves it: one place more, what
+-- stands where, and the length.
 use Prim.Native.Nat.{ℕ, _+_, _-_, _≤_, _<_}
 use mathlib.Core.Path.{_≡_, sym, ap, _∙_}
 use mathlib.Core.List.{List, _++_}

@@ -1,5 +1,5 @@
--- A list whose places from i on are filled one after the other, as an array is in a loop: what holds of the places that were
--- filled, and that all others are as they were.
+-- A list whose places from i on are filled one after the other, as an array is in a loop: what holds of the places that
+-- were filled, and that all others are as they were.
 use Prim.Native.Nat.{ℕ, suc, _+_, _≤_, _<_}
 use mathlib.Core.Path.{_≡_, refl, sym, _∙_, subst}
 use mathlib.Core.List.{List}
@@ -20,8 +20,8 @@ filled-none R d i before =
     record { own = λ p lo hi. absurd (omega arith); below = λ p h. refl; above = λ p h. refl; as-long = refl }
 
 -- place i is filled, and then the n places after it
-pub filled-one : {A : Type 0} (R : ℕ → A → Type 0) (d : A) (n i : ℕ) (v : A) (before after : List A) → i < length before → R i v
-    → Filled R d n (i + 1) (set before i v) after
+pub filled-one : {A : Type 0} (R : ℕ → A → Type 0) (d : A) (n i : ℕ) (v : A) (before after : List A) → i < length before
+    → R i v → Filled R d n (i + 1) (set before i v) after
     → Filled R d (suc n) i before after
 filled-one R d n i v before after l right f = record {
   own = own;

@@ -1,6 +1,6 @@
--- A list laid over an area at a place: the definitions, and what they say, in this order: nothing laid; the area's length; one
--- list after another; one number, and one more number of a list; what stands where the list was laid, and before it; a tail of
--- the area that was lent and is back.
+-- A list laid over an area at a place: the definitions, and what they say, in this order: nothing laid; the area's
+-- length; one list after another; one number, and one more number of a list; what stands where the list was laid, and
+-- before it; a tail of the area that was lent and is back.
 use Prim.Native.Nat.{ℕ, _+_, _-_, _≤_, _<_}
 use mathlib.Core.List.{List, [], _∷_, _++_, append-assoc, append-nil}
 use mathlib.Core.Path.{_≡_, refl, sym, ap, ap₂, _∙_, subst}
@@ -8,8 +8,8 @@ use native.Mathlib.Nat.{add-zero, add-assoc}
 use native.Mathlib.Numerals.{add-one}
 use native.Mathlib.Omega.{arith}
 use lib.ListN.{length, getD, set, take, drop, length-append, length-drop, take-append-drop, drop-of-length-le}
-use lib.Seq.{take-all, length-take-le, take-length, take-suc, take-at, drop-at, drop-drop, take-append-le, take-append-seam}
-use lib.Seq.{drop-append-le, set-split}
+use lib.Seq.{take-all, length-take-le, take-length, take-suc, take-at, drop-at, drop-drop, take-append-le}
+use lib.Seq.{take-append-seam, drop-append-le, set-split}
 use Rattle.areas.specs.Copied.{copied}
 
 -- ---- the definitions
@@ -31,7 +31,8 @@ pub laid-none : (before : List ℕ) (at : ℕ) → Laid [] before at before at
 laid-none before at = record { area = sym (written-none before at); past = sym (add-zero at) }
 
 -- ---- the area stays as long
-pub written-length : (xs : List ℕ) (at : ℕ) (ys : List ℕ) → at + length ys ≤ length xs → length (written xs at ys) ≡ length xs
+pub written-length : (xs : List ℕ) (at : ℕ) (ys : List ℕ) → at + length ys ≤ length xs
+    → length (written xs at ys) ≡ length xs
 unfolding written
 written-length xs at ys h =
     let a : length (take at xs) ≡ at = length-take-le at xs (omega arith) in
@@ -39,7 +40,8 @@ written-length xs at ys h =
 
 pub laid-length : {text before after : List ℕ} {at next : ℕ} → next ≤ length before → Laid text before at after next
     → length after ≡ length before
-laid-length {text} {before} {after} {at} h l = ap length (l .area) ∙ written-length before at text (omega (arith, l .past))
+laid-length {text} {before} {after} {at} h l =
+    ap length (l .area) ∙ written-length before at text (omega (arith, l .past))
 
 -- ---- two texts, one after the other, are one
 module _ (xs : List ℕ) (at : ℕ) (ys : List ℕ) (fits : at + length ys ≤ length xs) where
@@ -48,7 +50,8 @@ module _ (xs : List ℕ) (at : ℕ) (ys : List ℕ) (fits : at + length ys ≤ l
 
   written-front : take (at + length ys) (written xs at ys) ≡ take at xs ++ ys
   unfolding written
-  written-front = rw (← append-assoc (take at xs) ys (drop (at + length ys) xs)) (take-at (take at xs ++ ys) _ _ front-length)
+  written-front =
+      rw (← append-assoc (take at xs) ys (drop (at + length ys) xs)) (take-at (take at xs ++ ys) _ _ front-length)
 
   written-rest : (n : ℕ) → drop (at + length ys + n) (written xs at ys) ≡ drop (at + length ys + n) xs
   unfolding written
@@ -75,7 +78,8 @@ laid-then {xs} {ys} {before} {middle} {after} {at} {p} {next} h l m = record {
 }
 
 -- the same text by another definition
-pub laid-as : {xs ys before after : List ℕ} {at next : ℕ} → xs ≡ ys → Laid xs before at after next → Laid ys before at after next
+pub laid-as : {xs ys before after : List ℕ} {at next : ℕ} → xs ≡ ys → Laid xs before at after next
+    → Laid ys before at after next
 laid-as {before = before} {after} {at} {next} e l = subst (λ (t : List ℕ). Laid t before at after next) e l
 
 -- ---- one byte, and one more byte of a list
@@ -101,7 +105,8 @@ pub laid-whole : (src before after : List ℕ) (at i : ℕ) → i ≡ length src
 laid-whole src before after at i e so = laid-as (ap (λ (n : ℕ). take n src) e ∙ take-length src) so
 
 -- ---- what stands where the text was laid, and before it
-pub written-here : (xs : List ℕ) (at : ℕ) (ys : List ℕ) → at ≤ length xs → take (length ys) (drop at (written xs at ys)) ≡ ys
+pub written-here : (xs : List ℕ) (at : ℕ) (ys : List ℕ) → at ≤ length xs
+    → take (length ys) (drop at (written xs at ys)) ≡ ys
 unfolding written
 written-here xs at ys h =
     ap (take (length ys)) (drop-at (take at xs) (ys ++ drop (at + length ys) xs) at (length-take-le at xs h))

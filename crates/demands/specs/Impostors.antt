@@ -1,6 +1,6 @@
--- Document 01, "How tight the statements have to be": the impostors that it names, each refuted. A reader or a runner here is
--- anything that might stand in the place of `read` or `run`; what refutes it is one sentence of the theorem page, kept for every
--- input. That `read` and `run` keep these sentences is on the page.
+-- Document 01, "How tight the statements have to be": the impostors that it names, each refuted. A reader or a runner
+-- here is anything that might stand in the place of `read` or `run`; what refutes it is one sentence of the theorem
+-- page, kept for every input. That `read` and `run` keep these sentences is on the page.
 use Prim.Native.Nat.{ℕ, _+_, _-_, _*_, _≤_, _<_}
 use mathlib.Core.Path.{_≡_, refl, sym, ap, _∙_}
 use mathlib.Core.Logic.{_↔_, _≢_}
@@ -14,20 +14,21 @@ use Rattle.search.specs.First.{foundOr, firstOf, isFound}
 use Rattle.columns.specs.Columns.{has, columnsBelow, implies, everyBelow}
 use Rattle.layout.specs.declared.Verdict.the-variants.{Accepted}
 use Rattle.layout.specs.Layout.{Layout}
-use Rattle.layout.specs.Contents.{isOutside, refuseIf, headVerdict, repeated, faultyByte, endIf, judged, ending, onEntry}
-use Rattle.layout.specs.Contents.{entriesFrom, afterHead, afterPlan, contentsOf}
+use Rattle.layout.specs.Contents.{isOutside, refuseIf, headVerdict, repeated, faultyByte, endIf, judged, ending}
+use Rattle.layout.specs.Contents.{onEntry, entriesFrom, afterHead, afterPlan, contentsOf}
 use Rattle.plan.specs.Ears.{occurs, isKey, hasKeys}
 use Rattle.plan.specs.Parents.{onParent, parentsFrom, parentsOf}
 use Rattle.plan.specs.Paper.{ReductionOrder}
 use Rattle.job.specs.declared.Reading.{Reading}
 use Rattle.job.specs.Query.{queryIn, planIn}
 use Rattle.job.specs.Read
-use Rattle.job.specs.Read.{afterContents, planParents, readContents, readAnswer}
+use Rattle.job.specs.Read.{afterContents, planParents, readContents, readAnswer, JobAccepted}
 use Rattle.job.specs.Theorems.{not-accepted}
 use Rattle.rows.specs.Rows.{positionsIn, rowsBefore, valueOf, agree, agreeOn}
 use Rattle.values.specs.Values.{pairAgrees, rowsAgree}
 use Rattle.treetracker.specs.declared.State.{State}
-use Rattle.treetracker.specs.Steps.{live, matches, nextRow, chose, fruitless, advanceOf, lookupOf, lookupMarks, stepOf, stepMarks}
+use Rattle.treetracker.specs.Steps.{live, matches, nextRow, chose, fruitless, advanceOf, lookupOf, lookupMarks, stepOf}
+use Rattle.treetracker.specs.Steps.{stepMarks}
 use Rattle.runs.specs.Run.{freshState, beginIn, beginAnswer, isEnded, markOf, markedIn, runAnswer}
 use Rattle.runs.specs.Procedure.{Core, core, coreStep, iterate}
 use Rattle.theory.specs.Along.{along}
@@ -47,7 +48,7 @@ abbrev stepsW : ℕ → Core
 stepsW n = iterate (positionsIn jobW) jobW n (start jobW marksW)
 
 record Computed : Type 0 where
-  accepted : readAnswer jobW .verdict ≡ Accepted
+  accepted : JobAccepted jobW
   begins-twins : Began twins (replicate 2 9)
   begins-empty : Began empty []
   begins-W : Began jobW marksW
@@ -56,19 +57,22 @@ record Computed : Type 0 where
   -- two equal rows are two records, and an empty table gives none
   two : length (naturalJoin twins) ≡ 2
   none : length (naturalJoin empty) ≡ 0
-  -- W has one record; its first step completes none, and its last, the twelfth, leaves 5 lookups where the bound allows 6
+  -- W has one record; its first step completes none, and its last, the twelfth, leaves 5 lookups; the bound allows 6
   one : length (naturalJoin jobW) ≡ 1
   none-yet : stepsW 0 .state .records ≡ 0
   first : stepsW 1 .state .records ≡ 0
   lookups : stepsW 12 .state .lookups ≡ 5
-  bound : (positionsIn jobW .k - 1) * (stepsW 12 .state .records + markedIn (stepsW 12 .marks) (positionsIn jobW .total)) ≡ 6
+  bound : (positionsIn jobW .k - 1)
+      * (stepsW 12 .state .records + markedIn (stepsW 12 .marks) (positionsIn jobW .total))
+      ≡ 6
 
 computed : Computed
-unfolding le bytes file W twins empty readAnswer readContents afterContents Read.afterPlan planParents contentsOf afterHead
-    afterPlan headVerdict isOutside refuseIf repeated faultyByte endIf judged ending onEntry entriesFrom parentsOf parentsFrom
-    onParent occurs isKey hasKeys has columnsBelow implies everyBelow firstOf foundOr isFound numberAt rowsBefore begun beginIn
-    beginAnswer iterate coreStep markedIn markOf live matches nextRow chose fruitless advanceOf lookupOf lookupMarks stepOf
-    stepMarks naturalJoin choicesFrom withRow only along rowsAgree pairAgrees agreeOn agree valueOf valueAt signed
+unfolding le bytes file W twins empty readAnswer readContents afterContents Read.afterPlan planParents contentsOf
+    afterHead afterPlan headVerdict isOutside refuseIf repeated faultyByte endIf judged ending onEntry entriesFrom
+    parentsOf parentsFrom onParent occurs isKey hasKeys has columnsBelow implies everyBelow firstOf foundOr isFound
+    numberAt rowsBefore begun beginIn beginAnswer iterate coreStep markedIn markOf live matches nextRow chose fruitless
+    advanceOf lookupOf lookupMarks stepOf stepMarks naturalJoin choicesFrom withRow only along rowsAgree pairAgrees
+    agreeOn agree valueOf valueAt signed
 computed = record {
   accepted = refl;
   begins-twins = refl;
@@ -93,7 +97,8 @@ none-refused e = not-accepted e
 -- ---- readers
 -- the sentence of acceptance
 abbrev pub AcceptsExactly : (List ℕ → Reading) → Type 0
-AcceptsExactly read = (s : List ℕ) → (read s .verdict ≡ Accepted) ↔ (Layout s × ReductionOrder (queryIn s) (reverse (planIn s)))
+AcceptsExactly read =
+    (s : List ℕ) → (read s .verdict ≡ Accepted) ↔ (Layout s × ReductionOrder (queryIn s) (reverse (planIn s)))
 
 pub read-keeps : AcceptsExactly readAnswer
 read-keeps = accepted-exactly
@@ -108,11 +113,15 @@ module _ (read : List ℕ → Reading) (keeps : AcceptsExactly read) where
   accepts-all h = none-refused (accepted-exactly [] .1 (keeps [] .0 (h [])))
 
 -- ---- runners
+-- where the calls of a runner leave a job that was begun
+abbrev pub standing : Runner → (s m : List ℕ) → List Call → Standing
+standing run s m cs = callsBy run s cs (begun s m)
+
 -- the sentence on records, at the end
 abbrev pub YieldsJoin : Runner → Type 0
 YieldsJoin run =
-    (s m : List ℕ) → Began s m → (cs : List Call) → isEnded (callsBy run s cs (begun s m) .state .next) ≡ true
-    → callsBy run s cs (begun s m) .records ≡ naturalJoin s
+    (s m : List ℕ) → Began s m → (cs : List Call) → isEnded (standing run s m cs .state .next) ≡ true
+    → standing run s m cs .records ≡ naturalJoin s
 
 pub run-yields : YieldsJoin runAnswer
 run-yields = records-all
@@ -121,8 +130,8 @@ run-yields = records-all
 abbrev pub KeepsStep : Runner → Type 0
 KeepsStep run =
     (s m : List ℕ) → Began s m → (cs : List Call)
-    → core (callsBy run s cs (begun s m) .state) (callsBy run s cs (begun s m) .marks)
-    ≡ iterate (positionsIn s) s (callsBy run s cs (begun s m) .state .steps) (start s m)
+    → core (standing run s m cs .state) (standing run s m cs .marks)
+    ≡ iterate (positionsIn s) s (standing run s m cs .state .steps) (start s m)
 
 pub run-keeps : KeepsStep runAnswer
 run-keeps = same-as-procedure
@@ -132,8 +141,8 @@ abbrev pub EndsWith : Runner → List (List ℕ) → Type 0
 EndsWith run records =
     (s m : List ℕ) → Began s m
     → (cs : List Call)
-    × (isEnded (callsBy run s cs (begun s m) .state .next) ≡ true)
-    × (callsBy run s cs (begun s m) .records ≡ records)
+    × (isEnded (standing run s m cs .state .next) ≡ true)
+    × (standing run s m cs .records ≡ records)
 
 module _ (run : Runner) (yields : YieldsJoin run) where
   ends-in-join : (records : List (List ℕ)) → EndsWith run records → (s m : List ℕ) → Began s m
@@ -155,7 +164,7 @@ module _ (run : Runner) (yields : YieldsJoin run) where
 
 module _ (run : Runner) (keeps : KeepsStep run) (cs : List Call) where
   abbrev after : Standing
-  after = callsBy run jobW cs (begun jobW marksW)
+  after = standing run jobW marksW cs
 
   is-step : (n : ℕ) → after .state .steps ≡ n → core (after .state) (after .marks) ≡ stepsW n
   is-step n e = keeps jobW marksW (computed .begins-W) cs ∙ ap stepsW e
@@ -179,8 +188,8 @@ module _ (run : Runner) (keeps : KeepsStep run) (cs : List Call) where
       → ⊥
   made-up-figure e h =
       let five = own-figure e in
-      let six = ap (λ (c : Core). (positionsIn jobW .k - 1) * (c .state .records + markedIn (c .marks) (positionsIn jobW .total)))
-      (is-step 12 e)
+      let six = ap (λ (c : Core).
+      (positionsIn jobW .k - 1) * (c .state .records + markedIn (c .marks) (positionsIn jobW .total))) (is-step 12 e)
       ∙ computed .bound in
       omega arith
 
@@ -188,7 +197,7 @@ module _ (run : Runner) (keeps : KeepsStep run) (cs : List Call) where
 abbrev pub KeepsBudget : Runner → Type 0
 KeepsBudget run =
     (s m : List ℕ) → Began s m → (cs : List Call) (c : Call)
-    → calledBy run s (callsBy run s cs (begun s m)) c .state .steps ≤ callsBy run s cs (begun s m) .state .steps + c .budget
+    → calledBy run s (standing run s m cs) c .state .steps ≤ standing run s m cs .state .steps + c .budget
 
 pub run-in-budget : KeepsBudget runAnswer
 run-in-budget = within-budget
@@ -196,9 +205,10 @@ run-in-budget = within-budget
 -- the sentence on progress
 abbrev pub Progresses : Runner → Type 0
 Progresses run =
-    (s m : List ℕ) → Began s m → (cs : List Call) (c : Call) → isEnded (callsBy run s cs (begun s m) .state .next) ≡ false
-    → callsBy run s cs (begun s m) .state .steps ≢ 16777216 → c .budget ≢ 0 → positionsIn s .k ≤ length (c .area)
-    → callsBy run s cs (begun s m) .state .steps < calledBy run s (callsBy run s cs (begun s m)) c .state .steps
+    (s m : List ℕ) → Began s m → (cs : List Call) (c : Call)
+    → isEnded (standing run s m cs .state .next) ≡ false → standing run s m cs .state .steps ≢ 16777216
+    → c .budget ≢ 0 → positionsIn s .k ≤ length (c .area)
+    → standing run s m cs .state .steps < calledBy run s (standing run s m cs) c .state .steps
 
 pub run-progresses : Progresses runAnswer
 run-progresses = progress
@@ -209,7 +219,7 @@ no-step = ap (λ (t : State). t .steps) (computed .fresh)
 
 -- a runner that does the whole join in a first call with budget 1, whatever its steps say
 pub all-in-one-call : (run : Runner) → KeepsStep run → KeepsBudget run → (c : Call) → c .budget ≡ 1
-    → callsBy run jobW (c ∷ []) (begun jobW marksW) .state .records ≡ length (naturalJoin jobW)
+    → standing run jobW marksW (c ∷ []) .state .records ≡ length (naturalJoin jobW)
     → ⊥
 unfolding callsBy
 all-in-one-call run keeps budget c e h =
@@ -226,15 +236,22 @@ all-in-one-call run keeps budget c e h =
         → calledBy run jobW (begun jobW marksW) c .state .steps ≤ 1
         → ⊥
     pick (yes z) l = let r = at-step 0 z in let none = computed .none-yet in let one = computed .one in omega arith
-    pick (no d) l = let r = at-step 1 (omega arith) in let none = computed .first in let one = computed .one in omega arith
+    pick (no d) l =
+        let r = at-step 1 (omega arith) in
+        let none = computed .first in
+        let one = computed .one in
+        omega arith
 
 -- a runner that stands still
-pub stands-still : (run : Runner) → Progresses run → ((c : Call) → calledBy run jobW (begun jobW marksW) c .state .steps ≡ 0) → ⊥
+pub stands-still : (run : Runner) → Progresses run
+    → ((c : Call) → calledBy run jobW (begun jobW marksW) c .state .steps ≡ 0)
+    → ⊥
 unfolding callsBy
 stands-still run progresses h =
     let c : Call = record { budget = 1; area = replicate 3 0 } in
     let fresh = no-step in
-    let going : isEnded (begun jobW marksW .state .next) ≡ false = ap (λ (t : State). isEnded (t .next)) (computed .fresh) in
+    let going : isEnded (begun jobW marksW .state .next) ≡ false =
+    ap (λ (t : State). isEnded (t .next)) (computed .fresh) in
     let three = computed .three in
     let z = h c in
     let l = progresses jobW marksW (computed .begins-W) [] c going (omega arith) (omega arith) (omega arith) in

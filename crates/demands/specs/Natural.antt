@@ -1,8 +1,8 @@
--- Demands 2 and 3: what run calls hand out, count and mark. A job is begun with a mark area m, and `calls s cs (begun s m)` is
--- where any list cs of calls leaves it, with any budgets and areas, each made on the file, state and marks as the former left
--- them. The natural join is `naturalJoin s`, the procedure of paper 001 `iterate` from `start s m`, and `blamedRows` the rows
--- that its lookups marked, in order. These are definitions of crates/join/specs/Natural.antt, Calls.antt and Blame.antt, and of
--- crates/runs/specs/Procedure.antt.
+-- Demands 2 and 3: what run calls hand out, count and mark. A job is begun with a mark area m, and
+-- `calls s cs (begun s m)` is where any list cs of calls leaves it, with any budgets and areas, each made on the file,
+-- state and marks as the former left them. The natural join is `naturalJoin s`, the procedure of paper 001 `iterate`
+-- from `start s m`, and `blamedRows` the rows that its lookups marked, in order. These are definitions of
+-- crates/join/specs/Natural.antt, Calls.antt and Blame.antt, and of crates/runs/specs/Procedure.antt.
 use Prim.Native.Nat.{ℕ, _+_, _-_, _*_, _≤_, _<_}
 use mathlib.Core.Path.{_≡_}
 use mathlib.Core.Logic.{_↔_, _≢_, _⊎_}
@@ -18,7 +18,6 @@ use Rattle.runs.specs.declared.Stop.{Stop}
 use Rattle.runs.specs.declared.RunVerdict.the-variants.{Stopped}
 use Rattle.runs.specs.Run.{cleared, isEnded, markedIn, runAnswer}
 use Rattle.runs.specs.Procedure.{core, iterate}
-use Rattle.runs.specs.Theorems.{JobAccepted}
 use Rattle.theory.specs.Choices.{Row, Among}
 use Rattle.theory.specs.Order.{Ascending}
 use Rattle.join.specs.Natural.{naturalJoin}
@@ -30,6 +29,7 @@ use Rattle.join.specs.Marks.{OfJob, Once}
 use Rattle.join.specs.Theorems.{enough}
 use Rattle.join.specs.Theorems as Procedure
 use Rattle.join.specs.Outcome
+use Rattle.job.specs.Read.{JobAccepted}
 
 -- ---- the natural join
 -- its members are exactly the records that fit: a row of each table, any two of them agreeing on every shared column
@@ -53,45 +53,49 @@ module _ (s m : List ℕ) (b : Began s m) (cs : List Call) where
   abbrev after : Standing
   after = calls s cs (begun s m)
 
+  -- the run has ended there
+  abbrev AtEnd : Type 0
+  AtEnd = isEnded (after .state .next) ≡ true
+
   -- the rows that lookups blamed by then, in order
   abbrev blamed : List Row
   blamed = blamedRows s m (after .state .steps)
 
-  -- Same as the procedure: state and marks are those of its steps from the fresh state, as many as the state counts; so is the
-  -- lookup count, which is part of the state
+  -- Same as the procedure: state and marks are those of its steps from the fresh state, as many as the state counts; so
+  -- is the lookup count, which is part of the state
   pub same-as-procedure : core (after .state) (after .marks) ≡ iterate g s (after .state .steps) (start s m)
   same-as-procedure = CallLaws.stands s m b cs .same
 
-  -- Records: all that were handed out so far, in order, are the first of the natural join, as many as the state counts; at the
-  -- end they are all of it
+  -- Records: all that were handed out so far, in order, are the first of the natural join, as many as the state counts;
+  -- at the end they are all of it
   pub records-first : after .records ≡ take (after .state .records) (naturalJoin s)
   records-first = Outcome.records-first s m b cs
 
   pub records-counted : length (after .records) ≡ after .state .records
   records-counted = CallLaws.stands s m b cs .counted
 
-  pub records-all : isEnded (after .state .next) ≡ true → after .records ≡ naturalJoin s
+  pub records-all : AtEnd → after .records ≡ naturalJoin s
   records-all = Outcome.records-all s m b cs
 
   -- each of them fits the job, so joining its values is never refused with 14
   pub records-fit : (x : List ℕ) → List·Memᴰ x (after .records) → RecordFits s g x
   records-fit = Outcome.records-fit s m b cs
 
-  -- Bound: lookups are at most (tables − 1) × (records + marked rows), where before the end 1 is added inside the second bracket
+  -- Bound: lookups are at most (tables − 1) × (records + marked rows), where before the end 1 is added inside the
+  -- second bracket
   pub bound : after .state .lookups ≤ (g .k - 1) * (length (after .records) + markedIn (after .marks) (g .total) + 1)
   bound = Outcome.bound s m b cs
 
-  pub bound-end : isEnded (after .state .next) ≡ true
+  pub bound-end : AtEnd
       → after .state .lookups ≤ (g .k - 1) * (length (naturalJoin s) + markedIn (after .marks) (g .total))
   bound-end = Outcome.bound-end s m b cs
 
   -- at the end steps are at most 3 × lookups + records + 1
-  pub steps-end : isEnded (after .state .next) ≡ true
-      → after .state .steps ≤ 3 * after .state .lookups + length (naturalJoin s) + 1
+  pub steps-end : AtEnd → after .state .steps ≤ 3 * after .state .lookups + length (naturalJoin s) + 1
   steps-end = Outcome.steps-end s m b cs
 
-  -- Marks: the mark area is the one that beginning left, with a 1 for each row that was blamed; none was blamed twice, so each
-  -- marked row is marked once
+  -- Marks: the mark area is the one that beginning left, with a 1 for each row that was blamed; none was blamed twice,
+  -- so each marked row is marked once
   pub marks-by : after .marks ≡ markedBy g blamed (cleared (g .total) m)
   marks-by = Outcome.marks-by s m b cs
 
@@ -144,11 +148,12 @@ module _ (s m : List ℕ) (b : Began s m) (cs : List Call) where
   within-budget = CallLaws.within-budget s m b after (CallLaws.stands s m b cs)
 
   -- so a caller that goes on reaches the end or the step limit
-  pub reaches-end : Able s cs → 16777216 ≤ length cs → (isEnded (after .state .next) ≡ true) ⊎ (after .state .steps ≡ 16777216)
+  pub reaches-end : Able s cs → 16777216 ≤ length cs → AtEnd ⊎ (after .state .steps ≡ 16777216)
   reaches-end = CallLaws.reaches-end s m b cs
 
-  -- and the end itself, where the limit is not below `enough`, which is 3 × (tables − 1) × (records + rows + 1) + records + 3
-  pub limit-not-met : enough s ≤ 16777216 → after .state .steps ≡ 16777216 → isEnded (after .state .next) ≡ true
+  -- and the end itself, where the limit is not below `enough`, which is 3 × (tables − 1) × (records + rows + 1) +
+  -- records + 3
+  pub limit-not-met : enough s ≤ 16777216 → after .state .steps ≡ 16777216 → AtEnd
   limit-not-met = Outcome.limit-not-met s m b cs
 
 -- the procedure itself ends, for every accepted job

@@ -1,5 +1,5 @@
--- A state as 14 numbers, and back (document 01, "The steps of a run": "The state goes in by value and the next state is handed
--- back").
+-- A state as 14 numbers, and back (document 01, "The steps of a run": "The state goes in by value and the next state is
+-- handed back").
 use Prim.Native.Nat.{ℕ}
 use mathlib.Core.List.{List, [], _∷_}
 use mathlib.Core.Bool.{Bool, cond, _&&_}
@@ -35,16 +35,15 @@ nextOf kind = cond (eqb kind 0) Ended (cond (eqb kind 1) Advance Lookup)
 
 -- the numbers, each in its place
 abbrev pub stateIn : List ℕ → State
-stateIn n =
-    record {
-      next = nextOf (getD n 0 0);
-      at = getD n 1 0;
-      start = getD n 2 0;
-      chosen = getD n 3 0 ∷ getD n 4 0 ∷ getD n 5 0 ∷ getD n 6 0 ∷ getD n 7 0 ∷ getD n 8 0 ∷ getD n 9 0 ∷ getD n 10 0 ∷ [];
-      steps = getD n 11 0;
-      lookups = getD n 12 0;
-      records = getD n 13 0;
-    }
+stateIn n = record {
+  next = nextOf (getD n 0 0);
+  at = getD n 1 0;
+  start = getD n 2 0;
+  chosen = getD n 3 0 ∷ getD n 4 0 ∷ getD n 5 0 ∷ getD n 6 0 ∷ getD n 7 0 ∷ getD n 8 0 ∷ getD n 9 0 ∷ getD n 10 0 ∷ [];
+  steps = getD n 11 0;
+  lookups = getD n 12 0;
+  records = getD n 13 0;
+}
 
 -- the state, accepted
 abbrev pub taken : State → Taken

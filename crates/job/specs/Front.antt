@@ -1,5 +1,6 @@
--- What reading looks at: the file's length and its first 12 + 16 × k bytes, which are the head, the plan and the contents
--- entries. In this order: the numbers there; the plan; an entry; the entries from one on; the contents; what `read` answers.
+-- What reading looks at: the file's length and its first 12 + 16 × k bytes, which are the head, the plan and the
+-- contents entries. In this order: the numbers there; the plan; an entry; the entries from one on; the contents; what
+-- `read` answers.
 use Prim.Native.Nat.{ℕ, zero, suc, _+_, _*_, _≤_, _<_}
 use mathlib.Core.Path.{_≡_, ap, ap₂, fun-ext}
 use mathlib.Core.List.{List}
@@ -13,7 +14,8 @@ use Rattle.layout.specs.Contents.{headVerdict, judged, refusedAt, onEntry, entr
 use Rattle.job.specs.Read.{readContents, readAnswer}
 
 -- two files of one length with the same bytes up to where the first one's contents end
-module _ (s t : List ℕ) (long : length s ≡ length t) (same : (i : ℕ) → i < 12 + 16 * tables s → getD s i 0 ≡ getD t i 0) where
+module _ (s t : List ℕ) (long : length s ≡ length t)
+    (same : (i : ℕ) → i < 12 + 16 * tables s → getD s i 0 ≡ getD t i 0) where
   -- they have the same number at a place whose four bytes lie before that end
   number-front : (at : ℕ) → at + 4 ≤ 12 + 16 * tables s → numberAt s at ≡ numberAt t at
   number-front at h = number-same s t at long (λ i a b. same i (omega arith))

@@ -1,5 +1,5 @@
--- An answer in numbers is the numbers of its answer; what is handed back can be handed in again; and numbers of no state are
--- refused as a state that does not fit, in that place of document 01's order.
+-- An answer in numbers is the numbers of its answer; what is handed back can be handed in again; and numbers of no
+-- state are refused as a state that does not fit, in that place of document 01's order.
 use Prim.Native.Nat.{ℕ, _≤_, _<_}
 use mathlib.Core.Path.{_≡_, refl, sym, ap, ap₂, _∙_}
 use mathlib.Core.Bool.{false}
@@ -10,7 +10,7 @@ use Rattle.layout.specs.declared.Verdict.{Verdict}
 use Rattle.layout.specs.declared.Verdict.the-variants.{Accepted, Refused}
 use Rattle.layout.specs.declared.Refusal.{Refusal}
 use Rattle.job.specs.declared.Reading.{Reading}
-use Rattle.job.specs.Read.{readAnswer}
+use Rattle.job.specs.Read.{readAnswer, JobAccepted}
 use Rattle.rows.specs.declared.Positions.{Positions}
 use Rattle.rows.specs.Rows.{positionsIn}
 use Rattle.treetracker.specs.declared.State.{State}
@@ -28,9 +28,9 @@ use Rattle.values.specs.declared.Joined.{Joined}
 use Rattle.values.specs.Values.{Left, valuesAnswer}
 use Rattle.korrigwen_c.specs.declared.StateNumbers.{StateNumbers}
 use Rattle.korrigwen_c.specs.Numbers.{verdictNumber, verdictPlace, ranNumber, ranPlace, ranReason, joinedNumber}
-use Rattle.korrigwen_c.specs.Numbers.{joinedPlace, joinedColumns, stateNumbers, misfit, takenOr, givenState, jobNumbers}
-use Rattle.korrigwen_c.specs.Numbers.{readNumbers, begunNumbers, begunWith, beginNumbers, ranNumbers, ranWith, runNumbers}
-use Rattle.korrigwen_c.specs.Numbers.{joinedNumbers, joinedWith, valuesNumbers}
+use Rattle.korrigwen_c.specs.Numbers.{joinedPlace, joinedColumns, stateNumbers, misfit, takenOr, givenState}
+use Rattle.korrigwen_c.specs.Numbers.{jobNumbers, readNumbers, begunNumbers, begunWith, beginNumbers, ranNumbers}
+use Rattle.korrigwen_c.specs.Numbers.{ranWith, runNumbers, joinedNumbers, joinedWith, valuesNumbers}
 
 -- ---- answers from their parts
 pub read-is : (s : List ℕ) (a : Reading) (n p : ℕ) → a ≡ readAnswer s → n ≡ verdictNumber (a .verdict)
@@ -70,7 +70,8 @@ values-is s r v l a n p c e f g h =
 -- ---- states
 module _ (v : StateNumbers) (a : Taken) (e : a ≡ stateOf (v .numbers)) where
   pub given-taken : a .verdict ≡ Accepted → a .state ≡ givenState v
-  given-taken h = sym (ap (λ (x : Verdict). takenOr x (a .state)) h) ∙ ap (λ (x : Taken). takenOr (x .verdict) (x .state)) e
+  given-taken h =
+      sym (ap (λ (x : Verdict). takenOr x (a .state)) h) ∙ ap (λ (x : Taken). takenOr (x .verdict) (x .state)) e
 
   pub given-none : (r : Refusal) (place : ℕ) → a .verdict ≡ Refused r place → misfit ≡ givenState v
   given-none r place h =
@@ -90,9 +91,11 @@ misfit-never g = refl
 
 -- so it gets 13 where the file and the mark area are in order, and both areas stay as they came
 pub no-state : (s m a : List ℕ) (v : StateNumbers) (budget : ℕ) → length (v .numbers) ≡ 14 → 2 < getD (v .numbers) 0 0
-    → readAnswer s .verdict ≡ Accepted → positionsIn s .total ≤ length m
-    → runNumbers s v m budget a ≡ ranWith (record { number = 13; place = 0; reason = 0; state = stateNumbers noState }) m a
+    → JobAccepted s → positionsIn s .total ≤ length m
+    → runNumbers s v m budget a
+    ≡ ranWith (record { number = 13; place = 0; reason = 0; state = stateNumbers noState }) m a
 no-state s m a v budget l h ok long =
     ap (λ (w : Running). ranWith (ranNumbers (w .answer)) (w .marks) (w .area))
     (ap (λ (t : State). runAnswer s t m budget a) (no-kind-misfit v l h)
-    ∙ sym (run-misfit s misfit m budget a (readAnswer s) refl (positionsIn s) refl ok long (misfit-never (positionsIn s))))
+    ∙ sym (run-misfit s misfit m budget a (readAnswer s) refl (positionsIn s) refl ok long
+    (misfit-never (positionsIn s))))

@@ -1,5 +1,6 @@
--- What the functions for other languages answer: the numbers of each answer of document 01's operations, and what they leave in
--- each lent area. An answer has number 0 where nothing was refused; in a refusal everything but number and place is 0.
+-- What the functions for other languages answer: the numbers of each answer of document 01's operations, and what they
+-- leave in each lent area. An answer has number 0 where nothing was refused; in a refusal everything but number and
+-- place is 0.
 use Prim.Native.Nat.{ℕ}
 use mathlib.Core.List.{List}
 use lib.IntN.{ℤ}

@@ -13,7 +13,10 @@ use values::Joined;
 ghost use mathlib.Core.Path.{_≡_};
 ghost use Rattle.runs.specs.Run.{stopNumber};
 ghost use Rattle.job.specs.Read.{readAnswer};
-ghost use Rattle.korrigwen_c.specs.Numbers.{verdictNumber, verdictPlace, ranNumber, ranPlace, ranReason, joinedNumber, joinedPlace, joinedColumns, stateNumbers, misfit, givenState, readNumbers, begunWith, beginNumbers, ranWith, runNumbers, joinedWith, valuesNumbers};
+ghost use Rattle.korrigwen_c.specs.Numbers.{verdictNumber, verdictPlace, ranNumber, ranPlace, ranReason};
+ghost use Rattle.korrigwen_c.specs.Numbers.{joinedNumber, joinedPlace, joinedColumns, stateNumbers, misfit};
+ghost use Rattle.korrigwen_c.specs.Numbers.{givenState, readNumbers, begunWith, beginNumbers, ranWith};
+ghost use Rattle.korrigwen_c.specs.Numbers.{runNumbers, joinedWith, valuesNumbers};
 
 // What reading gives: 0 and the job, or the number and the place of the refusal.
 #[repr(C)]
@@ -223,7 +226,8 @@ pub extern "C" fn korrigwen_run(
     budget: u32,
     area: &mut [u32],
 ) -> RanNumbers
-    ensures { λ a. ⌜ ranWith a (now (marks .exit)) (now (area .exit)) ≡ runNumbers (now (file .entry)) state (now (marks .entry)) budget (now (area .entry)) ⌝ }
+    ensures { λ a. ⌜ ranWith a (now (marks .exit)) (now (area .exit))
+        ≡ runNumbers (now (file .entry)) state (now (marks .entry)) budget (now (area .entry)) ⌝ }
 {
     let ran = runs::run(file, given_state(state), marks, budget, area);
     let verdict = ran.verdict;
@@ -243,7 +247,8 @@ pub extern "C" fn korrigwen_join_values(
     chosen: &[u32],
     values: &mut [i32],
 ) -> JoinedNumbers
-    ensures { λ a. ⌜ joinedWith a (now (values .exit)) ≡ valuesNumbers (now (file .entry)) (now (chosen .entry)) (now (values .entry)) ⌝ }
+    ensures { λ a. ⌜ joinedWith a (now (values .exit))
+        ≡ valuesNumbers (now (file .entry)) (now (chosen .entry)) (now (values .entry)) ⌝ }
 {
     let joined = values::join_values(file, chosen, values);
     JoinedNumbers {

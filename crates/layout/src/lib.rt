@@ -5,13 +5,14 @@
 // how it is found.
 use search::Found;
 ghost use mathlib.Core.Path.{_≡_};
-ghost use Prim.Native.Nat.{_+_, _*_, _-_, _≤_, _<_};
+ghost use Prim.Native.Nat.{_+_, _*_, _≤_, _<_};
 ghost use lib.ListN.{length, getD};
 ghost use lib.Dec.{eqb};
 ghost use Rattle.search.specs.First.{firstOf};
 ghost use Rattle.layout.specs.Numbers.{numberOf};
 ghost use Rattle.layout.specs.File.{planOf, entryAt, bodySize, noEntries};
-ghost use Rattle.layout.specs.Contents.{isOutside, headVerdict, faultyByte, judged, refusedAt, stopped, ending, entriesFrom, contentsOf};
+ghost use Rattle.layout.specs.Contents.{isOutside, headVerdict, faultyByte, judged, refusedAt, stopped, ending};
+ghost use Rattle.layout.specs.Contents.{entriesFrom, contentsOf};
 
 const LEAST_LENGTH: usize = 12;
 

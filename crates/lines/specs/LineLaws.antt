@@ -1,4 +1,5 @@
--- The line of a record, for the proof of the code: its two cases; that the places are the record's; that they lie in the file.
+-- The line of a record, for the proof of the code: its two cases; that the places are the record's; that they lie in
+-- the file.
 use Prim.Native.Nat.{ℕ, _≤_, _<_}
 use mathlib.Core.Path.{_≡_, refl, sym, ap, _∙_, subst}
 use mathlib.Core.List.{List, [], map}
@@ -66,5 +67,6 @@ module _ (s : List ℕ) (g : Positions) (r : List ℕ) where
           own : inRange (positionsIn s) r ≡ true → (j : ℕ) → j < length (joinedPlaces (positionsIn s) r)
               → Placed s (getD (joinedPlaces (positionsIn s) r) j 0)
           own t j u =
-              let (f, k) = places-inside s r (h .accepted) (λ q v. ltb-true _ _ (every-at (positionsIn s .k) _ t q v)) j u in
+              let (f, k) =
+              places-inside s r (h .accepted) (λ q v. ltb-true _ _ (every-at (positionsIn s .k) _ t q v)) j u in
               record { fourth = f; inside = k }

@@ -3,8 +3,7 @@ use Prim.Native.Nat.{ℕ}
 use mathlib.Core.Path.{_≡_}
 use mathlib.Core.List.{List, []}
 use mathlib.Core.Bool.{cond}
-use Rattle.layout.specs.declared.Verdict.the-variants.{Accepted}
-use Rattle.job.specs.Read.{readAnswer}
+use Rattle.job.specs.Read.{readAnswer, JobAccepted}
 use Rattle.rows.specs.declared.Positions.{Positions}
 use Rattle.rows.specs.Rows.{positionsOf}
 use Rattle.text.specs.Text.{lineText}
@@ -12,7 +11,7 @@ use Rattle.values.specs.Values.{inRange, joinedValues}
 
 -- g has the positions of the file's job, which is accepted
 pub record JobOf (s : List ℕ) (g : Positions) : Type 0 where
-  pub accepted : readAnswer s .verdict ≡ Accepted
+  pub accepted : JobAccepted s
   pub positions : g ≡ positionsOf (readAnswer s .job)
 
 -- the line of a record's joined values; no text where a row number is out of range

@@ -22,7 +22,8 @@ pub fn put_record(
     requires { ⌜ JobOf (now file) g ⌝ }
     requires { ⌜ Texts (now file) (now cells) (now sizes) ⌝ }
     requires { ⌜ at + 385 ≤ length (now out) ⌝ }
-    ensures { λ r. ⌜ Laid (recordText (now (file .entry)) g (now (chosen .entry))) (now (out .entry)) at (now (out .exit)) r ⌝ }
+    ensures { λ r. ⌜ Laid (recordText (now (file .entry)) g (now (chosen .entry)))
+        (now (out .entry)) at (now (out .exit)) r ⌝ }
     ensures { λ r. ⌜ r ≤ at + 385 ⌝ }
 {
     if !values::in_range(g, chosen) {

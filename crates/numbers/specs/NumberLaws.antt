@@ -1,5 +1,5 @@
--- The two cases of a number at a place, the two cases of a signed number, that no two numbers are the same signed one, and that a
--- number depends on its own four bytes alone.
+-- The two cases of a number at a place, the two cases of a signed number, that no two numbers are the same signed one,
+-- and that a number depends on its own four bytes alone.
 use Prim.Native.Nat.{ℕ, _+_, _-_, _≤_, _<_}
 use mathlib.Core.Path.{_≡_, sym, _∙_}
 use mathlib.Core.List.{List}
@@ -47,7 +47,8 @@ signed-same n m a b e = pick (decLt n 2147483648) (decLt m 2147483648)
         omega arith
 
 -- two files of one length with the same four bytes at a place have the same number there
-pub number-same : (s t : List ℕ) (at : ℕ) → length s ≡ length t → ((i : ℕ) → at ≤ i → i < at + 4 → getD s i 0 ≡ getD t i 0)
+pub number-same : (s t : List ℕ) (at : ℕ) → length s ≡ length t
+    → ((i : ℕ) → at ≤ i → i < at + 4 → getD s i 0 ≡ getD t i 0)
     → numberAt s at ≡ numberAt t at
 unfolding numberAt
 number-same s t at l e =

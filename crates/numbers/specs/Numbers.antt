@@ -1,5 +1,5 @@
--- Numbers in a list of bytes (document 01, "The job file": "All numbers are little-endian", "Values are signed 32-bit, two's
--- complement").
+-- Numbers in a list of bytes (document 01, "The job file": "All numbers are little-endian", "Values are signed 32-bit,
+-- two's complement").
 use Prim.Native.Nat.{ℕ, _+_, _*_, _-_}
 use mathlib.Core.List.{List}
 use mathlib.Core.Bool.{cond}

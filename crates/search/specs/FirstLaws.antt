@@ -1,6 +1,6 @@
--- What a search says of the number that it gives, in this order: one turn of it, for the proofs of loops; what is known of a
--- number that was found; what is known where nothing was found; that a search looks at its property's values alone; and
--- `isFound`.
+-- What a search says of the number that it gives, in this order: one turn of it, for the proofs of loops; what is known
+-- of a number that was found; what is known where nothing was found; that a search looks at its property's values
+-- alone; and `isFound`.
 use Prim.Native.Nat.{ℕ, zero, suc, _+_, _-_, _≤_, _<_}
 use mathlib.Core.Path.{_≡_, refl, sym, subst}
 use mathlib.Core.Bool.{Bool, true, false}
@@ -72,7 +72,8 @@ first-found f (suc n) from p e = pick (f from) refl e (first-found f n (from + 1
         }
 
 -- ---- nothing was found
-pub first-nothing : (f : ℕ → Bool) (n from : ℕ) → firstOf f n from ≡ Nothing → (q : ℕ) → from ≤ q → q < from + n → f q ≡ false
+pub first-nothing : (f : ℕ → Bool) (n from : ℕ) → firstOf f n from ≡ Nothing → (q : ℕ) → from ≤ q → q < from + n
+    → f q ≡ false
 unfolding firstOf foundOr
 first-nothing f zero from e q l u = absurd (omega arith)
 first-nothing f (suc n) from e q l u = pick (f from) refl e (first-nothing f n (from + 1))
@@ -81,7 +82,8 @@ first-nothing f (suc n) from e q l u = pick (f from) refl e (first-nothing f n (
         → (firstOf f n (from + 1) ≡ Nothing → (x : ℕ) → from + 1 ≤ x → x < from + 1 + n → f x ≡ false)
         → f q ≡ false
     pick true t g rec = absurd (at-nothing g)
-    pick false t g rec = from-next (λ (x : ℕ). f x ≡ false) from (from + suc n) t (λ x a b. rec g x a (omega arith)) q l u
+    pick false t g rec =
+        from-next (λ (x : ℕ). f x ≡ false) from (from + suc n) t (λ x a b. rec g x a (omega arith)) q l u
 
 -- ---- the same property, the same answer
 pub first-same : (f g : ℕ → Bool) (n from : ℕ) → ((q : ℕ) → f q ≡ g q) → firstOf f n from ≡ firstOf g n from

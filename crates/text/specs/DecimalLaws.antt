@@ -1,5 +1,5 @@
--- Laws of numbers in decimal, in this order: the two cases of the digits; what `io::decimal` gives is these digits; how many
--- there are at most; the two cases of a signed value, and how long the text of a file's value is at most.
+-- Laws of numbers in decimal, in this order: the two cases of the digits; what `io::decimal` gives is these digits; how
+-- many there are at most; the two cases of a signed value, and how long the text of a file's value is at most.
 use Prim.Native.Nat.{ℕ, zero, suc, _+_, _*_, _-_, _/_, _%_, _^_, _≤_, _<_}
 use mathlib.Core.List.{List, [], _∷_, _++_}
 use mathlib.Core.Path.{_≡_, refl, sym, ap, _∙_, subst}
@@ -61,7 +61,8 @@ few-digits n k h f = pick (decLt 10 k)
         absurd (omega arith)
     pick (no p) = omega arith
 
-pub decimal-text : (n k : ℕ) (xs : List ℕ) → n < 2 ^ 32 → Fewest 10 1 n k → take k xs ≡ digits 10 k n → take k xs ≡ textOf n
+pub decimal-text : (n k : ℕ) (xs : List ℕ) → n < 2 ^ 32 → Fewest 10 1 n k → take k xs ≡ digits 10 k n
+    → take k xs ≡ textOf n
 unfolding textOf
 decimal-text n k xs h f e = let few : k ≤ 20 = omega (arith, few-digits n k h f) in e ∙ digits-text 20 k n few f
 
@@ -78,7 +79,8 @@ text-length (suc most) k n h = pick (decLt n 10) k h (text-length most)
     pick (no p) (suc j) h rec =
         let b : n / 10 < 10 ^ suc j = div-lt-iff-lt-mul {k = 10} (lit< tt) .1 (rw pow-suc at h) in
         let r : length (textIn most (n / 10)) ≤ suc j = rec j (n / 10) b in
-        omega (arith, ap length (text-large most n (omega arith)), length-append (textIn most (n / 10)) ((48 + n % 10) ∷ []))
+        omega
+        (arith, ap length (text-large most n (omega arith)), length-append (textIn most (n / 10)) ((48 + n % 10) ∷ []))
 
 pub ten-digits : (n : ℕ) → n < 2 ^ 32 → length (textOf n) ≤ 10
 unfolding textOf

@@ -21,7 +21,8 @@ spaced-next : (zs : List ℤ) (z : ℤ) → spacedText (zs ++ (z ∷ [])) ≡ sp
 unfolding spacedText fieldText gapText
 spaced-next [] z = refl
 spaced-next (y ∷ []) z = refl
-spaced-next (x ∷ (y ∷ zs)) z = ap (λ (l : List ℕ). signedText x ++ (32 ∷ l)) (spaced-next (y ∷ zs) z) ∙ simp append-assoc
+spaced-next (x ∷ (y ∷ zs)) z =
+    ap (λ (l : List ℕ). signedText x ++ (32 ∷ l)) (spaced-next (y ∷ zs) z) ∙ simp append-assoc
 
 length-map : {A B : Type 0} (f : A → B) (l : List A) → length (map f l) ≡ length l
 length-map f [] = refl
@@ -32,12 +33,14 @@ unfolding spacedText valuesAt
 spaced-none s places = refl
 
 pub spaced-more : (s places : List ℕ) (i : ℕ) → i < length places
-    → spacedText (valuesAt s places i) ++ fieldText i (valueAt s (getD places i 0)) ≡ spacedText (valuesAt s places (i + 1))
+    → spacedText (valuesAt s places i) ++ fieldText i (valueAt s (getD places i 0))
+    ≡ spacedText (valuesAt s places (i + 1))
 unfolding valuesAt
 spaced-more s places i h =
     let n : length (map (valueAt s) (take i places)) ≡ i =
     length-map (valueAt s) (take i places) ∙ length-take-le i places (omega arith) in
-    let t : map (valueAt s) (take (i + 1) places) ≡ map (valueAt s) (take i places) ++ (valueAt s (getD places i 0) ∷ []) =
+    let t : map (valueAt s) (take (i + 1) places)
+    ≡ map (valueAt s) (take i places) ++ (valueAt s (getD places i 0) ∷ []) =
     rw (add-one, take-suc places i 0) (map-append (valueAt s) (take i places) (getD places i 0 ∷ [])) in
     sym (ap spacedText t
     ∙ spaced-next (map (valueAt s) (take i places)) (valueAt s (getD places i 0))

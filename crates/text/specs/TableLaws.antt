@@ -1,5 +1,5 @@
--- Laws of the table of texts, in this order: one more text; one value's text in its cell; the lengths; that the table is whole
--- once all are laid; and the text of the value at a place, as a part of the cells.
+-- Laws of the table of texts, in this order: one more text; one value's text in its cell; the lengths; that the table
+-- is whole once all are laid; and the text of the value at a place, as a part of the cells.
 use Prim.Native.Nat.{ℕ, zero, suc, _+_, _*_, _-_, _/_, _≤_, _<_}
 use mathlib.Core.List.{List}
 use mathlib.Core.Path.{_≡_, refl, sym, ap, _∙_, subst}
@@ -12,8 +12,7 @@ use lib.Seq.{getD-set-same, getD-set-other}
 use Rattle.numbers.specs.Numbers.{valueAt}
 use Rattle.text.specs.DecimalLaws.{value-length}
 use Rattle.text.specs.Text.{signedText, cellsAfter, sizesAfter, TextAt, Texts, Placed}
-use Rattle.areas.specs.Written.{written, Laid}
-use Rattle.areas.specs.Written.{laid-as, written-length, written-here, written-before}
+use Rattle.areas.specs.Written.{written, Laid, laid-as, written-length, written-here, written-before}
 
 -- ---- one more text
 module _ (s before : List ℕ) {now after : List ℕ} (w : ℕ) where
@@ -51,7 +50,9 @@ unfolding cellsAfter
 cells-length s cells zero h = refl
 cells-length s cells (suc w) h =
     let e : length (cellsAfter s cells w) ≡ length cells = cells-length s cells w (omega arith) in
-    written-length (cellsAfter s cells w) (12 * w) (signedText (valueAt s (4 * w))) (omega (arith, value-length s (4 * w))) ∙ e
+    written-length (cellsAfter s cells w) (12 * w) (signedText (valueAt s (4 * w)))
+    (omega (arith, value-length s (4 * w)))
+    ∙ e
 
 sizes-length : (s sizes : List ℕ) (w : ℕ) → length (sizesAfter s sizes w) ≡ length sizes
 unfolding sizesAfter
@@ -71,18 +72,20 @@ module _ (s cells sizes : List ℕ) (w : ℕ) (room : 12 * w + 12 ≤ length cel
       let e : getD (set sizes w (length own)) w 0 ≡ length own = getD-set-same sizes w (length own) 0 place in
       record { size = e; text = rw e (written-here cells (12 * w) own (omega arith)) }
 
-  text-kept : (v : ℕ) → v < w → TextAt s cells sizes v → TextAt s (written cells (12 * w) own) (set sizes w (length own)) v
+  text-kept : (v : ℕ) → v < w → TextAt s cells sizes v
+      → TextAt s (written cells (12 * w) own) (set sizes w (length own)) v
   unfolding own
   text-kept v h t =
-      let e : getD (set sizes w (length own)) v 0 ≡ getD sizes v 0 = getD-set-other sizes w v (length own) 0 (omega arith) in
+      let e : getD (set sizes w (length own)) v 0 ≡ getD sizes v 0 =
+      getD-set-other sizes w v (length own) 0 (omega arith) in
       let short : getD sizes v 0 ≤ 11 = omega (arith, t .size, value-length s (4 * v)) in record {
         size = e ∙ t .size;
         text = rw e (written-before cells (12 * w) own (12 * v) (getD sizes v 0) (omega arith) (omega arith) ∙ t .text);
       }
 
   texts-more : ((v : ℕ) → v < w → TextAt s cells sizes v) → (v : ℕ) → v < suc w
-      → TextAt s (written cells (12 * w) (signedText (valueAt s (4 * w)))) (set sizes w (length (signedText (valueAt s (4 * w)))))
-      v
+      → TextAt s (written cells (12 * w) (signedText (valueAt s (4 * w))))
+      (set sizes w (length (signedText (valueAt s (4 * w))))) v
   unfolding own
   texts-more first v h = pick (ℕ-discrete v w)
     where
@@ -134,4 +137,6 @@ module _ {s cells sizes : List ℕ} {place : ℕ} (table : Texts s cells sizes) 
       → take (12 * (place / 4) + size - 12 * (place / 4)) (drop (12 * (place / 4)) cells) ≡ signedText (valueAt s place)
   part-text {size} h =
       let n : 12 * (place / 4) + size - 12 * (place / 4) ≡ getD sizes (place / 4) 0 = omega arith in
-      ap (λ (k : ℕ). take k (drop (12 * (place / 4)) cells)) n ∙ cell .text ∙ ap (λ (at : ℕ). signedText (valueAt s at)) word
+      ap (λ (k : ℕ). take k (drop (12 * (place / 4)) cells)) n
+      ∙ cell .text
+      ∙ ap (λ (at : ℕ). signedText (valueAt s at)) word

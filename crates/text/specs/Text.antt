@@ -1,5 +1,5 @@
--- The program's text in bytes (document 01, "The program"): numbers in signed decimal, the line of a record, the last line and
--- the line of a refusal; a text laid over an area; and a table that holds the text of each value of a file.
+-- The program's text in bytes (document 01, "The program"): numbers in signed decimal, the line of a record, the last
+-- line and the line of a refusal; a text laid over an area; and a table that holds the text of each value of a file.
 use Prim.Native.Nat.{ℕ, zero, suc, _+_, _*_, _/_, _%_, _≤_}
 use mathlib.Core.Bool.{Bool, true, false, cond}
 use mathlib.Core.List.{List, [], _∷_, _++_, map}
@@ -63,7 +63,8 @@ summaryText stopped lookups records marked steps =
 unfoldable pub refusedText : ℕ → ℕ → List ℕ
 refusedText number place = countText (bytesOf "refused ") number ++ countText (bytesOf " at ") place ++ bytesOf "\n"
 
--- the text of the value at place 4 * w of the file s: cells has 12 places for it, and sizes says how many of them are the text
+-- the text of the value at place 4 * w of the file s: cells has 12 places for it, and sizes says how many of them are
+-- the text
 pub record TextAt (s cells sizes : List ℕ) (w : ℕ) : Type 0 where
   pub size : getD sizes w 0 ≡ length (signedText (valueAt s (4 * w)))
   pub text : take (getD sizes w 0) (drop (12 * w) cells) ≡ signedText (valueAt s (4 * w))

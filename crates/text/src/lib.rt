@@ -8,7 +8,8 @@ ghost use Prim.Native.Nat.{ℕ, _+_, _*_, _/_, _≤_, _<_};
 ghost use lib.IntN.{natAbs};
 ghost use lib.ListN.{length, getD, set};
 ghost use Rattle.numbers.specs.Numbers.{valueAt};
-ghost use Rattle.text.specs.Text.{textOf, signedText, fieldText, gapText, spacedText, lineText, countText, stoppedText, summaryText, refusedText};
+ghost use Rattle.text.specs.Text.{textOf, signedText, fieldText, gapText, spacedText, lineText, countText};
+ghost use Rattle.text.specs.Text.{stoppedText, summaryText, refusedText};
 ghost use Rattle.text.specs.Text.{Texts, cellsAfter, sizesAfter, Placed, valuesAt};
 ghost use Rattle.areas.specs.Written.{written, Laid};
 
@@ -83,8 +84,10 @@ pub fn put_value(z: i32, out: &mut [u8], at: usize) -> usize
 // The table's cell for the value at place 4 * w of the file.
 fn put_text(file: &[u8], w: usize, cells: &mut [u8], sizes: &mut [u8])
     requires { ⌜ (12 * w + 12 ≤ length (now cells)) × (w < length (now sizes)) ⌝ }
-    ensures { λ _. ⌜ now (cells .exit) ≡ written (now (cells .entry)) (12 * w) (signedText (valueAt (now (file .entry)) (4 * w))) ⌝ }
-    ensures { λ _. ⌜ now (sizes .exit) ≡ set (now (sizes .entry)) w (length (signedText (valueAt (now (file .entry)) (4 * w)))) ⌝ }
+    ensures { λ _. ⌜ now (cells .exit)
+        ≡ written (now (cells .entry)) (12 * w) (signedText (valueAt (now (file .entry)) (4 * w))) ⌝ }
+    ensures { λ _. ⌜ now (sizes .exit)
+        ≡ set (now (sizes .entry)) w (length (signedText (valueAt (now (file .entry)) (4 * w)))) ⌝ }
 {
     let from = CELL * w;
     let end = put_value(numbers::value_at(file, 4 * w), cells, from);
@@ -95,8 +98,10 @@ fn put_text(file: &[u8], w: usize, cells: &mut [u8], sizes: &mut [u8])
 pub fn put_texts(file: &[u8], cells: &mut [u8], sizes: &mut [u8])
     requires { ⌜ (3 * length (now file) ≤ length (now cells)) × (length (now file) ≤ 4 * length (now sizes)) ⌝ }
     ensures { λ _. ⌜ Texts (now (file .entry)) (now (cells .exit)) (now (sizes .exit)) ⌝ }
-    ensures { λ _. ⌜ now (cells .exit) ≡ cellsAfter (now (file .entry)) (now (cells .entry)) (length (now (file .entry)) / 4) ⌝ }
-    ensures { λ _. ⌜ now (sizes .exit) ≡ sizesAfter (now (file .entry)) (now (sizes .entry)) (length (now (file .entry)) / 4) ⌝ }
+    ensures { λ _. ⌜ now (cells .exit)
+        ≡ cellsAfter (now (file .entry)) (now (cells .entry)) (length (now (file .entry)) / 4) ⌝ }
+    ensures { λ _. ⌜ now (sizes .exit)
+        ≡ sizesAfter (now (file .entry)) (now (sizes .entry)) (length (now (file .entry)) / 4) ⌝ }
 {
     let n = file.len() / 4;
     let mut w = 0;
@@ -152,7 +157,8 @@ fn put_field(
     requires { ⌜ Texts (now file) (now cells) (now sizes) ⌝ }
     requires { ⌜ Placed (now file) place ⌝ }
     requires { ⌜ at + 12 ≤ length (now out) ⌝ }
-    ensures { λ r. ⌜ Laid (fieldText i (valueAt (now (file .entry)) place)) (now (out .entry)) at (now (out .exit)) r ⌝ }
+    ensures { λ r. ⌜ Laid (fieldText i (valueAt (now (file .entry)) place))
+        (now (out .entry)) at (now (out .exit)) r ⌝ }
     ensures { λ r. ⌜ r ≤ at + 12 ⌝ }
 {
     let p = put_gap(i, out, at);
@@ -173,7 +179,8 @@ fn put_fields(
     requires { ⌜ Texts (now file) (now cells) (now sizes) ⌝ }
     requires { ⌜ ((i : ℕ) → i < n → Placed (now file) (getD places i 0)) ⌝ }
     requires { ⌜ at + 384 ≤ length (now out) ⌝ }
-    ensures { λ r. ⌜ Laid (spacedText (valuesAt (now (file .entry)) places n)) (now (out .entry)) at (now (out .exit)) r ⌝ }
+    ensures { λ r. ⌜ Laid (spacedText (valuesAt (now (file .entry)) places n))
+        (now (out .entry)) at (now (out .exit)) r ⌝ }
     ensures { λ r. ⌜ r ≤ at + 384 ⌝ }
 {
     let mut p = at;
@@ -199,7 +206,8 @@ pub fn put_line(
     requires { ⌜ Texts (now file) (now cells) (now sizes) ⌝ }
     requires { ⌜ ((i : ℕ) → i < n → Placed (now file) (getD places i 0)) ⌝ }
     requires { ⌜ at + 385 ≤ length (now out) ⌝ }
-    ensures { λ r. ⌜ Laid (lineText (valuesAt (now (file .entry)) places n)) (now (out .entry)) at (now (out .exit)) r ⌝ }
+    ensures { λ r. ⌜ Laid (lineText (valuesAt (now (file .entry)) places n))
+        (now (out .entry)) at (now (out .exit)) r ⌝ }
     ensures { λ r. ⌜ r ≤ at + 385 ⌝ }
 {
     let p = put_fields(file, cells, sizes, places, n, out, at);
@@ -239,7 +247,8 @@ pub fn put_summary(
     at: usize,
 ) -> usize
     requires { ⌜ at + 100 ≤ length (now out) ⌝ }
-    ensures { λ r. ⌜ Laid (summaryText stopped lookups records marked steps) (now (out .entry)) at (now (out .exit)) r ⌝ }
+    ensures { λ r. ⌜ Laid (summaryText stopped lookups records marked steps)
+        (now (out .entry)) at (now (out .exit)) r ⌝ }
     ensures { λ r. ⌜ r ≤ at + 100 ⌝ }
 {
     let a = put_stopped(stopped, out, at);

@@ -1,7 +1,6 @@
 -- `flat::next_of` has the three cases of its definition.
 use mathlib.Core.Path.{sym}
 use Rattle.flat.specs.FlatLaws.{kind-ended, kind-advance, kind-lookup}
-use Rattle.flat.specs.Flat.{taken}
 use Rattle.flat.proofs.next_of.Statement.{statement}
 use Rattle.flat.proofs.next_of.Tie as tie
 

@@ -7,6 +7,7 @@ use mathlib.Core.List.{List}
 use Rattle.job.specs.ReadLaws.{read-refused, read-lacking, read-accepted}
 use Rattle.job.specs.Outcome.{masks-given}
 use Rattle.job.specs.Read.{readAnswer, readContents, planParents, acceptedWith}
+use Rattle.layout.specs.declared.Verdict.the-variants.{Accepted}
 use Rattle.layout.specs.ContentsLaws.{contents-few}
 use Rattle.plan.specs.Parents.{parentsOf}
 use Rattle.plan.specs.declared.Parents.{Parents}
@@ -49,40 +50,41 @@ enum-known-lacking c = search needs
 refused-with-requires-2 : tie.Need-refused-with-requires-2
 refused-with-requires-2 c κs = search needs
 
+-- the parents that were worked out are those of the contents, which were accepted
+abbrev at-contents : tie.After-parents-of → tie.After-read-contents
+at-contents c = c .before .before .before .before .before .before
+
+accepted : (c : tie.After-parents-of) → at-contents c .read-contents .result .verdict ≡ Accepted
+accepted c = c .before .before .before .before .enum-told .given .1
+
+parents : (c : tie.After-parents-of) → planParents (at-contents c .read-contents .result) ≡ c .parents-of .result
+unfolding planParents
+parents c =
+    let contents = at-contents c .read-contents in
+    let masks = c .before .plan-masks .ensures ∙ masks-given _ _ (contents .ensures) (accepted c) in
+    sym (c .parents-of .ensures ∙ ap (λ (m : List ℕ). parentsOf m (contents .result .k)) masks)
+
 returns-2 : tie.Need-returns-2
-unfolding readAnswer planParents
+unfolding readAnswer
 returns-2 c =
     let lacking = c .before .before .lacking in
-    let at-parents-of = c .before .before .before .before in
-    let parents-of = at-parents-of .parents-of in
-    let plan-masks = at-parents-of .before .plan-masks in
-    let at-enum-told = at-parents-of .before .before .before .before in
-    let enum-told = at-enum-told .enum-told in
-    let read-contents = at-enum-told .before .before .read-contents in
-    let parents : planParents (read-contents .result) ≡ parents-of .result = sym (parents-of .ensures
-    ∙ ap (λ (m : List ℕ). parentsOf m (read-contents .result .k))
-    (plan-masks .ensures ∙ masks-given _ _ (read-contents .ensures) (enum-told .given .1))) in
+    let at = c .before .before .before .before in
     c .refused-with2 .ensures
-    ∙ read-lacking _ _ (enum-told .given .1) (ap (λ (p : Parents). p .lacking) parents ∙ lacking .given .1)
-    ∙ ap readContents (read-contents .ensures)
+    ∙ read-lacking _ _ (accepted at) (ap (λ (p : Parents). p .lacking) (parents at) ∙ lacking .given .1)
+    ∙ ap readContents (at-contents at .read-contents .ensures)
 
 enum-told-2 : tie.Need-enum-told-2
 enum-told-2 c = search needs
 
 returns-3 : tie.Need-returns-3
-unfolding readAnswer planParents
+unfolding readAnswer
 returns-3 c =
-    let parents-of = c .before .before .before .parents-of in
-    let at-plan-masks = c .before .before .before .before in
-    let enum-told = at-plan-masks .before .before .before .enum-told in
-    let read-contents = at-plan-masks .before .before .before .before .before .read-contents in
-    let read-contents-result = read-contents .result in
-    let parents : planParents read-contents-result ≡ parents-of .result = sym (parents-of .ensures
-    ∙ ap (λ (m : List ℕ). parentsOf m (read-contents-result .k))
-    (at-plan-masks .plan-masks .ensures ∙ masks-given _ _ (read-contents .ensures) (enum-told .given .1))) in
-    ap (acceptedWith read-contents-result) (sym parents)
-    ∙ read-accepted _ (enum-told .given .1) (ap (λ (p : Parents). p .lacking) parents ∙ c .before .enum-told2 .given .1)
-    ∙ ap readContents (read-contents .ensures)
+    let none = c .before .enum-told2 .given .1 in
+    let at = c .before .before .before in
+    let contents = at-contents at .read-contents in
+    ap (acceptedWith (contents .result)) (sym (parents at))
+    ∙ read-accepted _ (accepted at) (ap (λ (p : Parents). p .lacking) (parents at) ∙ none)
+    ∙ ap readContents (contents .ensures)
 
 pub read-spec : {M : Type 1} → statement M
 read-spec =

@@ -1,13 +1,15 @@
 -- `layout::read_contents` goes on after each part that is not refused, as its definition does.
 use native.Mathlib.Omega.{arith}
 use borrow.Author.Needs.{needs}
-use mathlib.Core.Path.{sym, _∙_, ap₂}
+use mathlib.Core.Path.{_≡_, sym, _∙_, ap₂}
 use Prim.Native.Nat.{_+_, _*_, ℕ}
 use mathlib.Core.List.{List}
-use Rattle.layout.specs.ContentsLaws.{contents-head, contents-plan, contents-entries, head-accepted}
+use Rattle.layout.specs.ContentsLaws.{faultOf, contents-head, contents-plan, contents-entries, head-accepted}
 use Rattle.search.specs.First.{firstOf}
-use Rattle.layout.specs.Contents.{entriesFrom, faultyByte}
-use Rattle.layout.specs.File.{noEntries}
+use Rattle.layout.specs.declared.Verdict.the-variants.{Accepted}
+use Rattle.layout.specs.declared.Contents.{Contents}
+use Rattle.layout.specs.Contents.{headVerdict, entriesFrom, faultyByte}
+use Rattle.layout.specs.File.{tables, noEntries}
 use denote.Ref.{now}
 use Rattle.layout.proofs.read_contents.Statement.{statement}
 use Rattle.layout.proofs.read_contents.Tie as tie
@@ -48,20 +50,27 @@ enum-known-f c = search needs
 refused-at-requires-2 : tie.Need-refused-at-requires-2
 refused-at-requires-2 c κs = search needs
 
+-- the file's bytes and its number of tables; the head is accepted; and the first faulty plan byte is the definition's
+abbrev file : tie.After-first-faulty → List ℕ
+file c = now (c .before .before .before .before .before .before .before .before .args .s)
+
+head-is : (c : tie.After-first-faulty) → Accepted ≡ headVerdict (file c)
+head-is c =
+    let at-told = c .before .before .before .before in
+    sym (at-told .enum-told .given .1) ∙ at-told .before .before .head .ensures
+
+tables-are : (c : tie.After-first-faulty) → c .before .before .wide .result ≡ tables (file c)
+tables-are c = c .before .before .wide .ensures ∙ c .before .before .before .number-at .ensures
+
+faulty-is : (c : tie.After-first-faulty) → c .first-faulty .result ≡ faultOf (file c)
+faulty-is c =
+    c .first-faulty .ensures
+    ∙ ap₂ (λ (plan : List ℕ) (k : ℕ). firstOf (faultyByte plan k) 8 0) (c .before .plan-of .ensures) (tables-are c)
+
 returns-2 : tie.Need-returns-2
 returns-2 c =
-    let f = c .before .before .f in
-    let at-first-faulty = c .before .before .before .before in
-    let plan-of = at-first-faulty .before .plan-of in
-    let wide = at-first-faulty .before .before .wide in
-    let number-at = at-first-faulty .before .before .before .number-at in
-    let at-enum-told = at-first-faulty .before .before .before .before in
-    let head = at-enum-told .before .before .head in
-    c .refused-at2 .ensures
-    ∙ contents-plan _ _ (sym (at-enum-told .enum-told .given .1) ∙ head .ensures)
-    (sym (f .given .1)
-    ∙ at-first-faulty .first-faulty .ensures
-    ∙ ap₂ (λ (plan : List ℕ) (k : ℕ). firstOf (faultyByte plan k) 8 0) (plan-of .ensures) (wide .ensures ∙ number-at .ensures))
+    let at-faulty = c .before .before .before .before in
+    c .refused-at2 .ensures ∙ contents-plan _ _ (head-is at-faulty) (sym (c .before .before .f .given .1) ∙ faulty-is at-faulty)
 
 enum-told-2 : tie.Need-enum-told-2
 enum-told-2 c = search needs
@@ -78,20 +87,11 @@ read-entries-requires c κs =
 
 returns-3 : tie.Need-returns-3
 returns-3 c =
-    let first-faulty = c .before .before .before .first-faulty in
-    let at-plan-of = c .before .before .before .before in
-    let plan-of = at-plan-of .plan-of in
-    let wide = at-plan-of .before .wide in
-    let number-at = at-plan-of .before .before .number-at in
-    let enum-told = at-plan-of .before .before .before .enum-told in
-    let at-head = at-plan-of .before .before .before .before .before in
-    let args = at-head .before .before .args in
+    let at-faulty = c .before .before .before in
+    let entries : List ℕ → ℕ → Contents = λ plan k. entriesFrom (file at-faulty) k plan k 0 (12 + 16 * k) noEntries in
     c .read-entries .ensures
-    ∙ ap₂ (λ (plan : List ℕ) (k : ℕ). entriesFrom (now (args .s)) k plan k 0 (12 + 16 * k) noEntries) (plan-of .ensures)
-    (wide .ensures ∙ number-at .ensures)
-    ∙ contents-entries _ (sym (enum-told .given .1) ∙ at-head .head .ensures) (sym (c .before .enum-told2 .given .1)
-    ∙ first-faulty .ensures
-    ∙ ap₂ (λ (plan : List ℕ) (k : ℕ). firstOf (faultyByte plan k) 8 0) (plan-of .ensures) (wide .ensures ∙ number-at .ensures))
+    ∙ ap₂ entries (at-faulty .before .plan-of .ensures) (tables-are at-faulty)
+    ∙ contents-entries _ (head-is at-faulty) (sym (c .before .enum-told2 .given .1) ∙ faulty-is at-faulty)
 
 pub read-contents-spec : {M : Type 1} → statement M
 read-contents-spec =

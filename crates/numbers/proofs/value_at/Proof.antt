@@ -2,8 +2,7 @@
 use mathlib.Core.Path.{_∙_, ap}
 use mir.Syntax.{w32}
 use mir.Facts.{toZ-ofZ}
-use Rattle.numbers.specs.Numbers.{signed}
-use Rattle.numbers.specs.Numbers.{valueAt}
+use Rattle.numbers.specs.Numbers.{signed, valueAt}
 use borrow.Author.Needs.{needs}
 use Rattle.numbers.proofs.value_at.Statement.{statement}
 use Rattle.numbers.proofs.value_at.Tie as tie

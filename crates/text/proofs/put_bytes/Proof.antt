@@ -2,8 +2,7 @@
 use Prim.Native.Nat.{_≤_, _+_, _-_}
 use native.Mathlib.Omega.{arith}
 use lib.ListN.{length, take}
-use Rattle.areas.specs.Written.{Laid}
-use Rattle.areas.specs.Written.{laid-begun, laid-more, laid-whole, laid-length}
+use Rattle.areas.specs.Written.{Laid, laid-begun, laid-more, laid-whole, laid-length}
 use Rattle.text.proofs.put_bytes.Statement.{statement}
 use Rattle.text.proofs.put_bytes.Tie as tie
 

@@ -7,8 +7,7 @@ use lib.ListN.{length}
 use borrow.Author.Needs.{needs}
 use Rattle.text.specs.LineLaws.{spaced-none, spaced-more}
 use Rattle.text.specs.Text.{spacedText, valuesAt}
-use Rattle.areas.specs.Written.{Laid}
-use Rattle.areas.specs.Written.{laid-as, laid-none, laid-then}
+use Rattle.areas.specs.Written.{Laid, laid-as, laid-none, laid-then}
 use Rattle.text.proofs.put_fields.Statement.{statement}
 use Rattle.text.proofs.put_fields.Tie as tie
 

@@ -39,19 +39,29 @@ put-byte-requires c κs = search needs
 same-length : tie.Need-same-length
 same-length c = search needs
 
--- Paths in full: with names for them in scope `omega` would have more to read than it reads.
+-- the parts of the line, from where the last of them stands
+abbrev steps : tie.After-slice-known7 → tie.After-put-count4
+steps c = c .before .before .before .before .before .before
+
+abbrev marked : tie.After-slice-known7 → tie.After-put-count3
+marked c = steps c .before .before .before .before .before
+
+abbrev results : tie.After-slice-known7 → tie.After-put-count2
+results c = marked c .before .before .before .before .before
+
+abbrev lookups : tie.After-slice-known7 → tie.After-put-count
+lookups c = results c .before .before .before .before .before
+
+abbrev stopped : tie.After-slice-known7 → tie.After-put-stopped
+stopped c = lookups c .before .before .before .before .before
+
 returns : tie.Need-returns
 unfolding summaryText
 returns c =
-    let a = laid-then (omega arith) (c .before .before .before .before .before .before .before .before .before .before .before
-    .before .before .before .before .before .before .before .before .before .before .before .before .before .before .before
-    .put-stopped .ensures .0) (c .before .before .before .before .before .before .before .before .before .before .before .before
-    .before .before .before .before .before .before .before .before .before .put-count .ensures .0) in
-    let b = laid-then (omega arith) a (c .before .before .before .before .before .before .before .before .before .before .before
-    .before .before .before .before .before .put-count2 .ensures .0) in
-    let d = laid-then (omega arith) b
-    (c .before .before .before .before .before .before .before .before .before .before .before .put-count3 .ensures .0) in
-    let e = laid-then (omega arith) d (c .before .before .before .before .before .before .put-count4 .ensures .0) in
+    let a = laid-then (omega arith) (stopped c .put-stopped .ensures .0) (lookups c .put-count .ensures .0) in
+    let b = laid-then (omega arith) a (results c .put-count2 .ensures .0) in
+    let d = laid-then (omega arith) b (marked c .put-count3 .ensures .0) in
+    let e = laid-then (omega arith) d (steps c .put-count4 .ensures .0) in
     (laid-then (omega arith) e (c .before .before .put-byte .ensures), omega (arith, c .before .before .put-byte .ensures .past))
 
 pub put-summary-spec : {M : Type 1} → statement M
