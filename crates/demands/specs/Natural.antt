@@ -17,14 +17,14 @@ use Rattle.runs.specs.Procedure.{core, iterate}
 use Rattle.theory.specs.Choices.{Row, Among}
 use Rattle.theory.specs.Order.{Ascending}
 use Rattle.join.specs.Natural.{natural_join}
-use Rattle.join.specs.NaturalLaws
+use Rattle.join.proofs.NaturalLaws
 use Rattle.join.specs.Calls.{Call, Standing, begun, called, calls, Began, Able, start}
-use Rattle.join.specs.CallLaws
+use Rattle.join.proofs.CallLaws
 use Rattle.join.specs.Blame.{blamed_rows, marked_by}
-use Rattle.join.specs.Marks.{OfJob, Once}
-use Rattle.join.specs.Theorems.{enough}
-use Rattle.join.specs.Theorems as Procedure
-use Rattle.join.specs.Outcome
+use Rattle.join.proofs.Marks.{OfJob, Once}
+use Rattle.join.proofs.Theorems.{enough}
+use Rattle.join.proofs.Theorems as Procedure
+use Rattle.join.proofs.Outcome
 use Rattle.job.specs.Read.{JobAccepted}
 
 -- ---- the natural join

@@ -19,9 +19,9 @@ use Rattle.join.specs.Instance.{tables_in}
 use Rattle.paper.specs.Figures.{binary_join}
 use Rattle.paper.specs.Parents.{parent}
 use Rattle.paper.specs.Parents as Parents
-use Rattle.paper.specs.Job.{figure}
-use Rattle.paper.specs.Theorems.{SameAs}
-use Rattle.paper.specs.Theorems as Theorems
+use Rattle.paper.proofs.Job.{figure}
+use Rattle.paper.proofs.Theorems.{SameAs}
+use Rattle.paper.proofs.Theorems as Theorems
 
 -- ---- Figure 2b
 -- where the steps from the fresh state have ended, their records, the rows that they marked, in order, and their

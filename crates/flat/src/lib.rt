@@ -4,6 +4,8 @@
 // eight chosen rows, the steps, the lookups and the records. Numbers that no state has are refused as
 // 13. Whether a state fits a job is not asked here: the run itself tests it, each time.
 // specs/Flat.antt has both ways.
+#![tactic(auto)]
+
 ghost use Rattle.std.specs.Prelude.{◌≡◌, length};
 ghost use Rattle.flat.specs.Flat.{kind_of, next_of, numbers_of, state_in, not_taken, state_of};
 
@@ -15,7 +17,7 @@ const NUMBERS: usize = 14;
 const HIGHEST_KIND: u32 = 2;
 
 // What taking a state gives. In a refusal every number of the state is 0.
-#[derive(Drop)]
+#[derive(Clone, Copy)]
 pub struct Taken {
     pub verdict: Verdict,
     pub state: State,

@@ -2,6 +2,8 @@
 // contents of its file, then its plan. The answer is a refusal with number and place and nothing else,
 // or the job: k, the plan, each entry's four numbers and each position's parent. Nothing is copied from
 // the bodies, which are not looked at.
+#![tactic(auto)]
+
 ghost use Rattle.std.specs.Prelude.{◌≡◌};
 ghost use Rattle.layout.specs.File.{entry_at};
 ghost use Rattle.job.specs.Given.{file_masks};
@@ -12,7 +14,7 @@ use search::Found;
 
 // An accepted job. Entries and plan bytes from k on are 0; so are the root's place among the parents
 // and those from k on.
-#[derive(Drop)]
+#[derive(Clone, Copy)]
 pub struct Job {
     pub k: usize,
     pub plan: [u8; 8],
@@ -21,7 +23,7 @@ pub struct Job {
 }
 
 // What reading gives. In a refusal every number of the job is 0.
-#[derive(Drop)]
+#[derive(Clone, Copy)]
 pub struct Reading {
     pub verdict: Verdict,
     pub job: Job,

@@ -1,15 +1,21 @@
 // The program (document 01, "The program"): reads one job from standard input and writes its records as
 // lines of joined values and then the figures of the run, or the refusal. Everything but the reading and
 // writing is done by proved functions of the other crates; output goes out in large blocks.
+#![tactic(auto)]
+
 ghost use Rattle.std.specs.Prelude.{◌+◌, ◌≤◌, length};
 ghost use Rattle.text.specs.Text.{Texts};
 ghost use Rattle.lines.specs.Lines.{JobOf};
 
 use layout::{Refusal, Verdict};
-use libc::{STDIN_FILENO, STDOUT_FILENO};
 use rows::Positions;
 use runs::{RunVerdict, Stop};
 use treetracker::State;
+
+// The numbers that the system gives standard input and output.
+const STDIN_FILENO: i32 = 0;
+
+const STDOUT_FILENO: i32 = 1;
 
 // One byte more than a job may have, so that a longer input shows.
 const MOST_INPUT: usize = 65536;
@@ -20,7 +26,7 @@ const MOST_LINE: usize = 385;
 const MOST_CALLS: u32 = 16777217;
 
 // What a run call left: the state, how much of the output is filled, and what to do next.
-#[derive(Drop)]
+#[derive(Clone, Copy)]
 struct Turn {
     state: State,
     filled: usize,

@@ -3,6 +3,8 @@
 // goes in and out as its 14 numbers. Numbers of no state are handed on as a state that fits no job, so
 // that 13 keeps its place in document 01's order, after what is wrong with the file and the mark area.
 // specs/Numbers.antt says what each function answers.
+#![tactic(auto)]
+
 ghost use Rattle.std.specs.Prelude.{◌≡◌};
 ghost use Rattle.runs.specs.Run.{stop_number};
 ghost use Rattle.job.specs.Read.{read_answer};
@@ -18,7 +20,7 @@ use values::Joined;
 
 // What reading gives: 0 and the job, or the number and the place of the refusal.
 #[repr(C)]
-#[derive(Drop)]
+#[derive(Clone, Copy)]
 pub struct ReadNumbers {
     pub number: u32,
     pub place: usize,
@@ -30,14 +32,14 @@ pub struct ReadNumbers {
 
 // A state, in the order of flat::numbers_of.
 #[repr(C)]
-#[derive(Drop)]
+#[derive(Clone, Copy)]
 pub struct StateNumbers {
     pub numbers: [u32; 14],
 }
 
 // What beginning gives: 0 and the fresh state, or the refusal.
 #[repr(C)]
-#[derive(Drop)]
+#[derive(Clone, Copy)]
 pub struct BegunNumbers {
     pub number: u32,
     pub place: usize,
@@ -46,7 +48,7 @@ pub struct BegunNumbers {
 
 // What running gives: 0, why it stopped and the next state, or the refusal.
 #[repr(C)]
-#[derive(Drop)]
+#[derive(Clone, Copy)]
 pub struct RanNumbers {
     pub number: u32,
     pub place: usize,
@@ -56,7 +58,7 @@ pub struct RanNumbers {
 
 // What joining values gives: 0 and the number of columns, or the refusal.
 #[repr(C)]
-#[derive(Drop)]
+#[derive(Clone, Copy)]
 pub struct JoinedNumbers {
     pub number: u32,
     pub place: usize,

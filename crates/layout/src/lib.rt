@@ -3,6 +3,8 @@
 // looked at in its first 12 + 16 × k bytes alone, whatever it claims, and nothing is multiplied before
 // it is limited. specs/Layout.antt and specs/Numbers.antt say what is right, and specs/Contents.antt
 // how it is found.
+#![tactic(auto)]
+
 ghost use Rattle.std.specs.Prelude.{◌≡◌, ◌+◌, ◌*◌, ◌≤◌, ◌<◌, length, get_or, eqb};
 ghost use Rattle.search.specs.First.{first_holding};
 ghost use Rattle.layout.specs.Numbers.{number_of};
@@ -23,7 +25,7 @@ const MOST_COLUMNS: usize = 16;
 const MOST_ROWS: u32 = 4096;
 
 // The rows of document 01's table, in its order; `number_of` in specs/Numbers.antt gives their numbers.
-#[derive(Drop)]
+#[derive(Clone, Copy)]
 pub enum Refusal {
     // The file's length is out of bounds.
     Length,
@@ -57,7 +59,7 @@ pub enum Refusal {
     ValueArea,
 }
 
-#[derive(Drop)]
+#[derive(Clone, Copy)]
 pub enum Verdict {
     Accepted,
     // A refusal, with its place.
@@ -89,7 +91,7 @@ pub fn number_of(r: Refusal) -> u32
 
 // The four numbers of a contents entry, as other languages see them too.
 #[repr(C)]
-#[derive(Drop)]
+#[derive(Clone, Copy)]
 pub struct Entry {
     pub fields: u32,
     pub rows: u32,
@@ -98,7 +100,7 @@ pub struct Entry {
 }
 
 // What reading one contents entry gives.
-#[derive(Drop)]
+#[derive(Clone, Copy)]
 pub enum EntryRead {
     Numbers(Entry),
     Refused(Refusal),
@@ -106,7 +108,7 @@ pub enum EntryRead {
 
 // What reading the contents gives. In a refusal everything beside it is 0, and so are the entries and
 // plan bytes from k on.
-#[derive(Drop)]
+#[derive(Clone, Copy)]
 pub struct Contents {
     pub verdict: Verdict,
     pub k: usize,

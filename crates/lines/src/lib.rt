@@ -1,6 +1,8 @@
 // The line of a record (document 01, "The program": "for each record a line of the joined values"): its
 // values' texts, copied from a table in which each value of the file stands as text once. So no digit is
 // worked out twice, however many records there are.
+#![tactic(auto)]
+
 ghost use Rattle.std.specs.Prelude.{◌+◌, ◌≤◌, length};
 ghost use Rattle.areas.specs.Written.{Laid};
 ghost use Rattle.text.specs.Text.{Texts};

@@ -2,6 +2,8 @@
 // 32-bit number, and with two's complement a signed value. Where bytes run past the end, the number is 0,
 // and nothing is written there, so that no caller has to check first; `number_there` alone asks for bytes
 // that are there, and saves a search the test for each row.
+#![tactic(auto)]
+
 ghost use Rattle.std.specs.Prelude.{◌≡◌, ◌+◌, ◌≤◌, ◌<◌, length, get_or, set};
 ghost use Rattle.numbers.specs.Numbers.{four_bytes, number_at, signed, value_at};
 

@@ -1,7 +1,13 @@
 // Runs reading on the cases of standard input, and prints for each its label and what reading its file
 // answers, on a line. A case is a frame: the length of its label and that of its file, four bytes each
 // and lowest first, then the label, at most 200 bytes, then the file, at most 70,000.
-use libc::{STDIN_FILENO, STDOUT_FILENO};
+#![tactic(auto)]
+
+// The numbers that the system gives standard input and output.
+const STDIN_FILENO: i32 = 0;
+
+const STDOUT_FILENO: i32 = 1;
+
 
 const MOST_LABEL: usize = 200;
 

@@ -6,13 +6,19 @@
 // the label, the file, the mark area, the state's numbers and the record's. The area and the value area
 // are lent with one number in every place, so that a place that was written shows. Each line is laid into
 // a buffer by proved functions and goes out in one write.
+#![tactic(auto)]
+
 ghost use Rattle.std.specs.Prelude.{◌≤◌, true, ◌≡◌, length};
 
 use layout::{Refusal, Verdict};
-use libc::{STDIN_FILENO, STDOUT_FILENO};
 use runs::{Begun, Ran, RunVerdict, Stop};
 use treetracker::State;
 use values::Joined;
+
+// The numbers that the system gives standard input and output.
+const STDIN_FILENO: i32 = 0;
+
+const STDOUT_FILENO: i32 = 1;
 
 const HEADER: usize = 36;
 
@@ -38,7 +44,7 @@ const UNTOUCHED: u32 = 4294967295;
 const UNTOUCHED_VALUE: i32 = -7;
 
 // The numbers of a frame's header, in their order.
-#[derive(Drop)]
+#[derive(Clone, Copy)]
 struct Header {
     op: u32,
     label: usize,
@@ -52,7 +58,7 @@ struct Header {
 }
 
 // What a run call of a walk left: the state, and whether a further call is made.
-#[derive(Drop)]
+#[derive(Clone, Copy)]
 struct Turn {
     state: State,
     goes_on: bool,

@@ -5,5 +5,3 @@ pub mod TurnLaws
 pub mod Tests
 pub mod Procedure
 pub mod Trace
-pub mod Theorems
-pub mod Pause

@@ -1,9 +1,13 @@
 // What reading a job answers, as one line of text on standard output, without its newline: a refusal as
 // `refused N at P`, an accepted job as its number of tables, its plan, each entry's four numbers and
 // each position's parent.
+#![tactic(auto)]
+
 use job::{Job, Reading};
 use layout::{Entry, Refusal, Verdict};
-use libc::STDOUT_FILENO;
+
+// The numbers that the system gives standard input and output.
+const STDOUT_FILENO: i32 = 1;
 
 // A word as it stands.
 fn word(text: &[u8]) {

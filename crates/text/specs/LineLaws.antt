@@ -19,9 +19,9 @@ spaced_next (y ∷ []) z = refl
 spaced_next (x ∷ (y ∷ zs)) z =
     ap (λ (l : List ℕ). signed_text x ++ (32 ∷ l)) (spaced_next (y ∷ zs) z) ∙ simp append_assoc
 
-length_map : {A B : Type 0} (f : A → B) (l : List A) → length (map f l) ≡ length l
-length_map f [] = refl
-length_map f (x ∷ xs) = ap suc (length_map f xs)
+length-map : {A B : Type 0} (f : A → B) (l : List A) → length (map f l) ≡ length l
+length-map f [] = refl
+length-map f (x ∷ xs) = ap suc (length-map f xs)
 
 pub spaced_none : (s places : List ℕ) → spaced_text (values_at s places 0) ≡ []
 unfolding spaced_text values_at
@@ -33,7 +33,7 @@ pub spaced_more : (s places : List ℕ) (i : ℕ) → i < length places
 unfolding values_at
 spaced_more s places i h =
     let n : length (map (value_at s) (take i places)) ≡ i =
-    length_map (value_at s) (take i places) ∙ length-take-le i places (omega arith) in
+    length-map (value_at s) (take i places) ∙ length-take-le i places (omega arith) in
     let t : map (value_at s) (take (i + 1) places)
     ≡ map (value_at s) (take i places) ++ (value_at s (get_or places i 0) ∷ []) =
     rw (add-one, take-suc places i 0) (map-append (value_at s) (take i places) (get_or places i 0 ∷ [])) in

@@ -2,6 +2,8 @@
 // values, the line of a record, the last line and the line of a refusal. Each function lays its text at
 // a place and gives the place after it. A record's line copies the texts of its values from a table
 // that `put_texts` fills once for each file, so that no value's digits are worked out twice.
+#![tactic(auto)]
+
 ghost use Rattle.std.specs.Prelude.{◌≡◌, [], ◌∷◌, ℕ, ◌+◌, ◌*◌, ◌/◌, ◌≤◌, ◌<◌, nat_abs, length, get_or, set};
 ghost use Rattle.numbers.specs.Numbers.{value_at};
 ghost use Rattle.text.specs.Text.{text_of, signed_text, field_text, gap_text, spaced_text, line_text, count_text};

@@ -1,0 +1,10 @@
+-- `korrigwen::print_refused` writes the text that was laid, which is at most 40 bytes long.
+use Rattle.std.proofs.Common.{arith, rules, sym, ◌≡◌, length, length-take-le}
+use Rattle.korrigwen.proofs.print_refused.Goals as goal
+
+pub slice_bounds-write_all-end : goal.slice_bounds-write_all-end
+slice_bounds-write_all-end c =
+    let Put-refused = c.Put-refused in
+    let u = Put-refused.ensures.1 in
+    let l : length Put-refused.new.1.1.0 ≡ 100 = search rules in
+    sym (length-take-le _ _ (omega arith))

@@ -1,0 +1,18 @@
+-- `run_cases::within` answers true after every test.
+use Rattle.std.proofs.Common.{arith, ltb-false}
+use mathlib.Core.Bool.{false≢true}
+use Rattle.run_cases.proofs.within.Goals as goal
+
+pub returns-then-h-gt-MOST_LABEL : goal.returns-then-h-gt-MOST_LABEL
+returns-then-h-gt-MOST_LABEL c = λ e. absurd (false≢true e)
+
+pub returns-then-h-gt-MOST_NUMBERS : goal.returns-then-h-gt-MOST_NUMBERS
+returns-then-h-gt-MOST_NUMBERS c = λ e. absurd (false≢true e)
+
+pub returns-then-h-gt-MOST_AREA : goal.returns-then-h-gt-MOST_AREA
+returns-then-h-gt-MOST_AREA c = λ e. absurd (false≢true e)
+
+pub returns : goal.returns
+returns c =
+    let if5 = c.if-h-gt-MOST_NUMBERS-2 in
+    λ e. (omega arith, ltb-false _ _ if5.false, omega arith, ltb-false _ _ c.if-h-gt-MOST_VALUES.false)

@@ -1,0 +1,12 @@
+-- `text::put_field` lays the gap and then the text.
+use Rattle.std.proofs.Common.{arith}
+use Rattle.text.specs.Text.{field_text}
+use Rattle.areas.specs.Written.{laid_then}
+use Rattle.text.proofs.put_field.Goals as goal
+
+pub returns : goal.returns
+unfolding field_text
+returns c =
+    let copy-text = c.copy_text in
+    let put-gap = c.put_gap-p in
+    record { laid = laid_then (omega arith) put-gap.ensures.laid copy-text.ensures.laid; upper_bound = omega arith }
