@@ -5,7 +5,7 @@ use Rattle.korrigwen.proofs.places_filled.Goals as goal
 pub overflow_mul-k : goal.overflow_mul-k
 overflow_mul-k c =
     let args = c.args in
-    let r : args.after.records - args.records ≤ 4294967296 =
+    let r : args.after.records - args.before.records ≤ 4294967296 =
     let u : args.after.records < 4294967296 = search rules in omega arith in
     let pre = c.requires in
     omega (arith, mul-le-mul pre r)

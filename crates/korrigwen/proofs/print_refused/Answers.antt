@@ -4,7 +4,7 @@ use Rattle.korrigwen.proofs.print_refused.Goals as goal
 
 pub slice_bounds-write_all-end : goal.slice_bounds-write_all-end
 slice_bounds-write_all-end c =
-    let Put-refused = c.Put-refused in
-    let u = Put-refused.ensures.1 in
-    let l : length Put-refused.new.1.1.0 ≡ 100 = search rules in
+    let refused = c.put_refused-n in
+    let u = refused.ensures.upper_bound in
+    let l : length refused.new.out ≡ 100 = search rules in
     sym (length-take-le _ _ (omega arith))

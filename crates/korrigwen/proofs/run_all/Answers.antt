@@ -27,12 +27,9 @@ pub loop-calls-preserved : goal.loop-calls-preserved
 loop-calls-preserved c =
     let take-turn = c.take_turn-t in
     let r = take-turn.ensures in
-    let take-turn-kept = take-turn.auto in
-    let m = take-turn-kept.1.1.1.1.0 in
-    let a = take-turn-kept.1.1.1.1.1.1.0 in
-    let o = take-turn-kept.1.1.1.1.1.1.1.0 in
+    let kept = take-turn.auto in
     let inv = c.loop-calls.invariant in
-    (omega arith, o ∙ inv.1, a ∙ inv.2, m ∙ inv.3)
+    (omega arith, kept.out ∙ inv.1, kept.area ∙ inv.2, kept.marks ∙ inv.3)
 
 pub slice_bounds-print_summary-end : goal.slice_bounds-print_summary-end
 slice_bounds-print_summary-end c = sym c.loop-calls.invariant.1

@@ -5,6 +5,4 @@ use Rattle.korrigwen.proofs.take_turn.Goals as goal
 
 pub places_filled-end-requires : goal.places_filled-end-requires
 places_filled-end-requires c =
-    let pre =
-    c.requires in
-    (job_sound _ _ [] pre.0.0).few
+    (job_sound _ _ [] c.requires.job_of.0).few

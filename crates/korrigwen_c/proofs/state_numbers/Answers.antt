@@ -4,4 +4,4 @@ use Rattle.korrigwen_c.specs.Numbers.{fourteen}
 use Rattle.korrigwen_c.proofs.state_numbers.Goals as goal
 
 pub returns : goal.returns
-returns c = ap fourteen c.Numbers-of.ensures
+returns c = ap fourteen c.numbers_of.ensures

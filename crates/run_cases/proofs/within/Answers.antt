@@ -13,6 +13,4 @@ pub returns-then-h-gt-MOST_AREA : goal.returns-then-h-gt-MOST_AREA
 returns-then-h-gt-MOST_AREA c = λ e. absurd (false≢true e)
 
 pub returns : goal.returns
-returns c =
-    let if5 = c.if-h-gt-MOST_NUMBERS-2 in
-    λ e. (omega arith, ltb-false _ _ if5.false, omega arith, ltb-false _ _ c.if-h-gt-MOST_VALUES.false)
+returns c = λ e. (omega arith, omega arith, omega arith, omega arith)
