@@ -1,7 +1,8 @@
 -- The first places of one list copied over the front of another, as a loop that copies leaves it: one place more, what
 -- stands where, and the length.
 use Rattle.std.specs.Prelude.{ℕ, ◌+◌, ◌-◌, ◌≤◌, ◌<◌, ◌≡◌, List, ◌++◌, length, get_or, set, take, drop}
-use Rattle.std.proofs.Common.{sym, ap, ◌∙◌, arith, zero-add, add-one, length-append, length-drop, length-take-le, get_or-take, get_or-drop, get_or-append-add}
+use Rattle.std.proofs.Common.{sym, ap, ◌∙◌, arith, zero-add, add-one, length-append, length-drop, length-take-le}
+use Rattle.std.proofs.Common.{get_or-take, get_or-drop, get_or-append-add}
 use Rattle.std.proofs.Math.ListN.{get_or-append}
 use Rattle.std.proofs.Math.Seq.{paste-suc}
 

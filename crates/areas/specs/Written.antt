@@ -3,7 +3,8 @@
 -- before it; a tail of the area that was lent and is back.
 use Rattle.std.specs.Prelude.{ℕ, ◌+◌, ◌-◌, ◌≤◌, ◌<◌, ◌≡◌, refl, get_or, set, take}
 use mathlib.Core.List.{List, [], ◌∷◌, ◌++◌, append_assoc, append-nil}
-use Rattle.std.proofs.Common.{sym, ap₂, ◌∙◌, subst, add-zero, add_assoc, add-one, arith, length-drop, take-append-drop, drop_of_length-le, take_all, take-suc, take_at, drop_at}
+use Rattle.std.proofs.Common.{sym, ap₂, ◌∙◌, subst, add-zero, add_assoc, add-one, arith, length-drop, take-append-drop}
+use Rattle.std.proofs.Common.{drop_of_length-le, take_all, take-suc, take_at, drop_at}
 use Rattle.std.proofs.Math.Path.{ap}
 use Rattle.std.proofs.Math.ListN.{length, drop, length-append}
 use Rattle.std.proofs.Math.Seq.{length-take-le, take-length, drop-drop, take-append_seam}

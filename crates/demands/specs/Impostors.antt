@@ -1,7 +1,8 @@
 -- Document 01, "How tight the statements have to be": the impostors that it names, each refuted. A reader or a runner
 -- here is anything that might stand in the place of `read` or `run`; what refutes it is one sentence of the theorem
 -- page, kept for every input. That `read` and `run` keep these sentences is on the page.
-use Rattle.std.specs.Prelude.{ℕ, ◌+◌, ◌-◌, ◌*◌, ◌≤◌, ◌<◌, ◌≡◌, refl, ◌↔◌, ◌≢◌, List, [], ◌∷◌, reverse, true, false, length, replicate}
+use Rattle.std.specs.Prelude.{ℕ, ◌+◌, ◌-◌, ◌*◌, ◌≤◌, ◌<◌, ◌≡◌, refl, ◌↔◌, ◌≢◌, List, [], ◌∷◌, reverse, true}
+use Rattle.std.specs.Prelude.{false, length, replicate}
 use Rattle.std.proofs.Common.{sym, ap, ◌∙◌, arith}
 use Rattle.std.proofs.Math.Decide.{ℕ_discrete}
 use Rattle.numbers.specs.Numbers.{number_at, signed, value_at}
@@ -22,7 +23,8 @@ use Rattle.job.specs.Theorems.{not_accepted}
 use Rattle.rows.specs.Rows.{positions_in, rows_before, value_of, agree, agree_on}
 use Rattle.values.specs.Values.{pair_agrees, rows_agree}
 use Rattle.treetracker.specs.declared.State.{State}
-use Rattle.treetracker.specs.Steps.{live, matches, next_row, chose, fruitless, advance_of, lookup_of, lookup_marks, step_of}
+use Rattle.treetracker.specs.Steps.{live, matches, next_row, chose, fruitless, advance_of, lookup_of}
+use Rattle.treetracker.specs.Steps.{lookup_marks, step_of}
 use Rattle.treetracker.specs.Steps.{step_marks}
 use Rattle.runs.specs.Run.{fresh_state, begin_in, begin_answer, is_ended, mark_of, marked_in, run_answer}
 use Rattle.runs.specs.Procedure.{Core, core, core_step, iterate}
@@ -35,44 +37,45 @@ use Rattle.demands.specs.Natural.{same_as_procedure, records_all, within_budget,
 
 -- ---- what the documents' own jobs come to
 -- the mark area that W is begun with
-abbrev marks_w : List ℕ
+abbrev pub marks_w : List ℕ
 marks_w = replicate 6 9
 
 -- state and marks of W after n steps
-abbrev steps_w : ℕ → Core
+abbrev pub steps_w : ℕ → Core
 steps_w n = iterate (positions_in job_w) job_w n (start job_w marks_w)
 
-record Computed : Type 0 where
-  accepted : JobAccepted job_w
-  begins_twins : Began twins (replicate 2 9)
-  begins_empty : Began empty []
-  begins-W : Began job_w marks_w
-  fresh : (begun job_w marks_w).state ≡ fresh_state
-  three : (positions_in job_w).k ≡ 3
+pub record Computed : Type 0 where
+  pub accepted : JobAccepted job_w
+  pub begins_twins : Began twins (replicate 2 9)
+  pub begins_empty : Began empty []
+  pub begins_w : Began job_w marks_w
+  pub fresh : (begun job_w marks_w).state ≡ fresh_state
+  pub three : (positions_in job_w).k ≡ 3
   -- two equal rows are two records, and an empty table gives none
-  two : length (natural_join twins) ≡ 2
-  none : length (natural_join empty) ≡ 0
+  pub two : length (natural_join twins) ≡ 2
+  pub none : length (natural_join empty) ≡ 0
   -- W has one record; its first step completes none, and its last, the twelfth, leaves 5 lookups; the bound allows 6
-  one : length (natural_join job_w) ≡ 1
-  none_yet : (steps_w 0).state.records ≡ 0
-  first : (steps_w 1).state.records ≡ 0
-  lookups : (steps_w 12).state.lookups ≡ 5
-  bound : ((positions_in job_w).k - 1)
+  pub one : length (natural_join job_w) ≡ 1
+  pub none_yet : (steps_w 0).state.records ≡ 0
+  pub first : (steps_w 1).state.records ≡ 0
+  pub lookups : (steps_w 12).state.lookups ≡ 5
+  pub bound : ((positions_in job_w).k - 1)
       * ((steps_w 12).state.records + marked_in (steps_w 12).marks (positions_in job_w).total)
       ≡ 6
 
-computed : Computed
-unfolding le bytes file W twins empty read_answer read_contents after_contents Read.after_plan plan_parents contents_of
-    after_head after_plan head_verdict is_outside refuse_if repeated faulty_byte end_if judged ending on_entry entries_from
-    parents_of parents_from on_parent occurs is_key has_keys has columns_below implies every_below first_holding found_or is_found
-    number_at rows_before begun begin_in begin_answer iterate core_step marked_in mark_of live matches next_row chose fruitless
-    advance_of lookup_of lookup_marks step_of step_marks natural_join choices_from with_row only along rows_agree pair_agrees
-    agree_on agree value_of value_at signed
+pub computed : Computed
+unfolding le bytes file W twins empty read_answer read_contents after_contents Read.after_plan plan_parents
+    contents_of after_head after_plan head_verdict is_outside refuse_if repeated faulty_byte end_if judged
+    ending on_entry entries_from parents_of parents_from on_parent occurs is_key has_keys has columns_below
+    implies every_below first_holding found_or is_found number_at rows_before begun begin_in begin_answer
+    iterate core_step marked_in mark_of live matches next_row chose fruitless advance_of lookup_of lookup_marks
+    step_of step_marks natural_join choices_from with_row only along rows_agree pair_agrees agree_on agree
+    value_of value_at signed
 computed = record {
   accepted = refl;
   begins_twins = refl;
   begins_empty = refl;
-  begins-W = refl;
+  begins_w = refl;
   fresh = refl;
   three = refl;
   two = refl;
@@ -161,8 +164,8 @@ module _ (run : Runner) (keeps : KeepsStep run) (cs : List Call) where
   abbrev after : Standing
   after = standing run job_w marks_w cs
 
-  is_step : (n : ℕ) → after.state.steps ≡ n → core after.state after.marks ≡ steps_w n
-  is_step n e = keeps job_w marks_w computed.begins-W cs ∙ ap steps_w e
+  pub is_step : (n : ℕ) → after.state.steps ≡ n → core after.state after.marks ≡ steps_w n
+  is_step n e = keeps job_w marks_w computed.begins_w cs ∙ ap steps_w e
 
   -- a runner that does the whole join in its first step, and idles afterwards
   pub all_at_once : after.state.steps ≡ 1 → after.state.records ≡ length (natural_join job_w) → ⊥
@@ -172,21 +175,10 @@ module _ (run : Runner) (keeps : KeepsStep run) (cs : List Call) where
       let one = computed.one in
       omega arith
 
-  -- after the last step of W its lookup figure is 5
-  pub own_figure : after.state.steps ≡ 12 → after.state.lookups ≡ 5
-  own_figure e = ap (λ (c : Core). c.state.lookups) (is_step 12 e) ∙ computed.lookups
-
-  -- so a figure made up to fit the bound, which allows 6, is another
-  pub made_up_figure : after.state.steps ≡ 12
-      → after.state.lookups
-      ≡ ((positions_in job_w).k - 1) * (after.state.records + marked_in after.marks (positions_in job_w).total)
-      → ⊥
-  made_up_figure e h =
-      let five = own_figure e in
-      let six = ap (λ (c : Core).
-      ((positions_in job_w).k - 1) * (c.state.records + marked_in c.marks (positions_in job_w).total)) (is_step 12 e)
-      ∙ computed.bound in
-      omega arith
+  -- after the last step of W its lookup figure is 5; so a figure made up to fit the bound, which allows 6, is another:
+  -- proved as `own_figure` and `made_up_figure` of proofs/Impostors.antt
+  abbrev pub OwnFigure : Type 0
+  OwnFigure = after.state.steps ≡ 12 → after.state.lookups ≡ 5
 
 -- the sentence on budgets
 abbrev pub KeepsBudget : Runner → Type 0
@@ -218,7 +210,7 @@ pub all_in_one_call : (run : Runner) → KeepsStep run → KeepsBudget run → (
     → ⊥
 unfolding calls_by
 all_in_one_call run keeps budget c e h =
-    let most = budget job_w marks_w computed.begins-W [] c in
+    let most = budget job_w marks_w computed.begins_w [] c in
     let fresh = no_step in
     let one = computed.one in
     pick (ℕ_discrete (called_by run job_w (begun job_w marks_w) c).state.steps 0) (omega arith)
@@ -249,5 +241,5 @@ stands_still run progresses h =
     ap (λ (t : State). is_ended t.next) computed.fresh in
     let three = computed.three in
     let z = h c in
-    let l = progresses job_w marks_w computed.begins-W [] c going (omega arith) (omega arith) (omega arith) in
+    let l = progresses job_w marks_w computed.begins_w [] c going (omega arith) (omega arith) (omega arith) in
     omega arith

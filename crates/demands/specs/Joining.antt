@@ -7,7 +7,7 @@ use Rattle.layout.specs.declared.Refusal.{Refusal}
 use Rattle.layout.specs.declared.Refusal.TheVariants.{State as StateRow}
 use Rattle.layout.specs.declared.Verdict.TheVariants.{Accepted, Refused}
 use Rattle.layout.specs.Numbers.{number_of, answer_of}
-use Rattle.layout.specs.Numbers.{refused as readingRefused}
+use Rattle.layout.specs.Numbers.{refused as reading_refused}
 use Rattle.job.specs.Read.{JobAccepted}
 use Rattle.job.specs.Given.{First}
 use Rattle.rows.specs.declared.Positions.{Positions}
@@ -70,7 +70,9 @@ module _ (s r : List ℕ) (area : List ℤ) where
     -- "their values, ascending by column, stand at the front of the value area": after those of the columns below it
     -- stands the value of a column, in the row of the first position that has it
     pub column_value : (c : ℕ) → c < 32 → is_column g c ≡ true → (d : ℤ)
-        → (p : ℕ) × (first_with g c ≡ At p) × (get_or after (columns_up_to g c) d ≡ value_of s (entry_of g p) (row_at r p) c)
+        → (p : ℕ)
+        × (first_with g c ≡ At p)
+        × (get_or after (columns_up_to g c) d ≡ value_of s (entry_of g p) (row_at r p) c)
     column_value = values.column_value s r area n answers
 
     -- "and its later places are untouched"
@@ -89,7 +91,7 @@ numbers_forth = flat.forth
 pub not_a_state : (n : List ℕ) → ((state_of n).verdict ≡ Refused StateRow 0) ↔ ((length n ≢ 14) ⊎ (2 < get_or n 0 0))
 not_a_state = flat.not_a_state
 
-pub thirteen : answer_of not_taken.verdict ≡ readingRefused 13 0
+pub thirteen : answer_of not_taken.verdict ≡ reading_refused 13 0
 thirteen = flat.thirteen
 
 pub refused_alone : (n : List ℕ) → (state_of n).verdict ≢ Accepted → state_of n ≡ not_taken

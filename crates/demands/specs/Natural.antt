@@ -82,9 +82,10 @@ module _ (s m : List ℕ) (b : Began s m) (cs : List Call) where
   pub bound : after.state.lookups ≤ (g.k - 1) * (length after.records + marked_in after.marks g.total + 1)
   bound = Outcome.bound s m b cs
 
-  pub bound_end : AtEnd
-      → after.state.lookups ≤ (g.k - 1) * (length (natural_join s) + marked_in after.marks g.total)
-  bound_end = Outcome.bound_end s m b cs
+  -- proved as `bound_end` of proofs/Natural.antt
+  abbrev pub BoundEnd : Type 0
+  BoundEnd =
+      AtEnd → after.state.lookups ≤ (g.k - 1) * (length (natural_join s) + marked_in after.marks g.total)
 
   -- at the end steps are at most 3 × lookups + records + 1
   pub steps_end : AtEnd → after.state.steps ≤ 3 * after.state.lookups + length (natural_join s) + 1

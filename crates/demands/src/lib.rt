@@ -3,4 +3,3 @@
 // the impostors that it names, refuted. There is no code here: specs/Reading.antt, Running.antt, Joining.antt,
 // Natural.antt, Paper.antt, Examples.antt and Impostors.antt are what there is to read.
 #![tactic(auto)]
-

@@ -35,7 +35,8 @@ state_in n = record {
   next = next_of (get_or n 0 0);
   at = get_or n 1 0;
   start = get_or n 2 0;
-  chosen = get_or n 3 0 ∷ get_or n 4 0 ∷ get_or n 5 0 ∷ get_or n 6 0 ∷ get_or n 7 0 ∷ get_or n 8 0 ∷ get_or n 9 0 ∷ get_or n 10 0 ∷ [];
+  chosen = get_or n 3 0 ∷ get_or n 4 0 ∷ get_or n 5 0 ∷ get_or n 6 0 ∷ get_or n 7 0
+      ∷ get_or n 8 0 ∷ get_or n 9 0 ∷ get_or n 10 0 ∷ [];
   steps = get_or n 11 0;
   lookups = get_or n 12 0;
   records = get_or n 13 0;

@@ -7,7 +7,6 @@ ghost use Rattle.io.specs.Counts.{IsPrefixLen};
 // The numbers that the system gives standard input and output.
 const STDIN_FILENO: i32 = 0;
 
-
 // Reads the next bytes of the input to the start of buf, as many as asked for, or fewer where the input
 // ends first, and answers how many came. It reads none where buf has not room for as many.
 pub fn take(buf: &mut [u8], length: usize) -> usize

@@ -8,7 +8,6 @@ const STDIN_FILENO: i32 = 0;
 
 const STDOUT_FILENO: i32 = 1;
 
-
 const MOST_LABEL: usize = 200;
 
 const MOST_FILE: usize = 70000;

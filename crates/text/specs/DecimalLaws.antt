@@ -1,7 +1,9 @@
 -- Laws of numbers in decimal, in this order: the two cases of the digits; what `io::decimal` gives is these digits; how
 -- many there are at most; the two cases of a signed value, and how long the text of a file's value is at most.
-use Rattle.std.specs.Prelude.{ℕ, zero, suc, ◌+◌, ◌*◌, ◌-◌, ◌/◌, ◌%◌, ◌^◌, ◌≤◌, ◌<◌, List, [], ◌∷◌, ◌++◌, ◌≡◌, refl, T, ℤ, pos, negsuc, nat_abs, length, take}
-use Rattle.std.proofs.Common.{sym, ap, ◌∙◌, subst, not-suc-le-zero, pow-suc, div-lt_iff_lt-mul, le-div_iff_mul-le, arith, lit<, length-append, lt-ltb, le-ltb}
+use Rattle.std.specs.Prelude.{ℕ, zero, suc, ◌+◌, ◌*◌, ◌-◌, ◌/◌, ◌%◌, ◌^◌, ◌≤◌, ◌<◌, List, [], ◌∷◌, ◌++◌, ◌≡◌, refl, T, ℤ}
+use Rattle.std.specs.Prelude.{pos, negsuc, nat_abs, length, take}
+use Rattle.std.proofs.Common.{sym, ap, ◌∙◌, subst, not-suc-le-zero, pow-suc, div-lt_iff_lt-mul, le-div_iff_mul-le, arith}
+use Rattle.std.proofs.Common.{lit<, length-append, lt-ltb, le-ltb}
 use Rattle.std.proofs.Math.Decide.{dec_lt}
 use Rattle.std.proofs.Math.Nat.{pow-le-pow_right}
 use Rattle.std.specs.Int.Signed.{non_neg}

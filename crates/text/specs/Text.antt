@@ -1,6 +1,7 @@
 -- The program's text in bytes (document 01, "The program"): numbers in signed decimal, the line of a record, the last
 -- line and the line of a refusal; a text laid over an area; and a table that holds the text of each value of a file.
-use Rattle.std.specs.Prelude.{ℕ, zero, suc, ◌+◌, ◌*◌, ◌/◌, ◌%◌, ◌≤◌, Bool, true, false, cond, List, [], ◌∷◌, ◌++◌, map, ◌≡◌, ltb, ℤ, pos, negsuc, length, get_or, set, take, drop}
+use Rattle.std.specs.Prelude.{ℕ, zero, suc, ◌+◌, ◌*◌, ◌/◌, ◌%◌, ◌≤◌, Bool, true, false, cond, List, [], ◌∷◌, ◌++◌, map, ◌≡◌}
+use Rattle.std.specs.Prelude.{ltb, ℤ, pos, negsuc, length, get_or, set, take, drop}
 use Rattle.areas.specs.Written.{written}
 use Rattle.numbers.specs.Numbers.{value_at}
 use Rattle.text.specs.Words.{bytes_of}

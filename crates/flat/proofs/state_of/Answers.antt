@@ -8,7 +8,8 @@ pub returns-then-numbers-ne-NUMBERS : goal.returns-then-numbers-ne-NUMBERS
 returns-then-numbers-ne-NUMBERS c = c.refused.ensures ∙ sym (not_fourteen _ (λ e. omega arith))
 
 pub returns-then-numbers-gt-HIGHEST_KIND : goal.returns-then-numbers-gt-HIGHEST_KIND
-returns-then-numbers-gt-HIGHEST_KIND c = c.refused-then-numbers-gt-HIGHEST_KIND.ensures ∙ sym (no_kind _ (omega arith) c.if-numbers-gt-HIGHEST_KIND.true)
+returns-then-numbers-gt-HIGHEST_KIND c =
+    c.refused-then-numbers-gt-HIGHEST_KIND.ensures ∙ sym (no_kind _ (omega arith) c.if-numbers-gt-HIGHEST_KIND.true)
 
 pub returns : goal.returns
 returns c = ap taken c.state_in.ensures ∙ sym (is_taken _ (omega arith) (omega arith))

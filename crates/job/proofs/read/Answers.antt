@@ -24,8 +24,8 @@ parents c =
 pub returns-in-Refused : goal.returns-in-Refused
 unfolding read_answer
 returns-in-Refused c =
-    let read-contents = c.read_contents-c in
-    c.refused_with.ensures ∙ read_refused _ _ _ c.in-Refused.is ∙ ap read_contents read-contents.ensures
+    let read_contents_call = c.read_contents-c in
+    c.refused_with.ensures ∙ read_refused _ _ _ c.in-Refused.is ∙ ap read_contents read_contents_call.ensures
 
 pub parents_of-p-requires : goal.parents_of-p-requires
 parents_of-p-requires c =
@@ -35,15 +35,17 @@ parents_of-p-requires c =
 pub returns-in-At : goal.returns-in-At
 unfolding read_answer
 returns-in-At c =
+    let at = (goal.at.returns-in-At c).After-parents_of-p in
     c.refused_with-in-At.ensures
-    ∙ read_lacking _ _ (accepted (goal.at.returns-in-At c).After-parents_of-p) (ap (λ (p : Parents). p.lacking) (parents (goal.at.returns-in-At c).After-parents_of-p) ∙ c.in-At.is)
+    ∙ read_lacking _ _ (accepted at) (ap (λ (p : Parents). p.lacking) (parents at) ∙ c.in-At.is)
     ∙ ap read_contents c.read_contents-c.ensures
 
 pub returns : goal.returns
 unfolding read_answer
 returns c =
+    let at = (goal.at.returns c).After-parents_of-p in
     let none = c.in_default-lacking.is in
     let contents = c.read_contents-c in
-    ap (accepted_with contents.result) (sym (parents (goal.at.returns c).After-parents_of-p))
-    ∙ read_accepted _ (accepted (goal.at.returns c).After-parents_of-p) (ap (λ (p : Parents). p.lacking) (parents (goal.at.returns c).After-parents_of-p) ∙ none)
+    ap (accepted_with contents.result) (sym (parents at))
+    ∙ read_accepted _ (accepted at) (ap (λ (p : Parents). p.lacking) (parents at) ∙ none)
     ∙ ap read_contents contents.ensures

@@ -59,9 +59,9 @@ loop-from-smaller c =
 
 pub loop-from-preserved : goal.loop-from-preserved
 loop-from-preserved c =
-    let print-record = c.print_record-at in
-    let r = print-record.ensures in
-    let same = print-record.auto.out in
+    let print_record = c.print_record-at in
+    let r = print_record.ensures in
+    let same = print_record.auto.out in
     let loop = c.loop-from in
     let f = loop.invariant.2 in
     (omega arith, same ∙ loop.invariant.1, omega arith)

@@ -25,9 +25,9 @@ loop-calls-smaller c = omega arith
 
 pub loop-calls-preserved : goal.loop-calls-preserved
 loop-calls-preserved c =
-    let take-turn = c.take_turn-t in
-    let r = take-turn.ensures in
-    let kept = take-turn.auto in
+    let take_turn = c.take_turn-t in
+    let r = take_turn.ensures in
+    let kept = take_turn.auto in
     let inv = c.loop-calls.invariant in
     (omega arith, kept.out ∙ inv.1, kept.area ∙ inv.2, kept.marks ∙ inv.3)
 

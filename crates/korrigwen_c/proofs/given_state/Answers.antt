@@ -8,5 +8,5 @@ returns-in-Accepted c = given_taken _ _ c.state_of-taken.ensures c.in-Accepted.i
 
 pub returns-in-Refused : goal.returns-in-Refused
 returns-in-Refused c =
-    let state-of = c.state_of-taken in
-    c.misfit_state.ensures ∙ given_none _ _ state-of.ensures _ _ c.in-Refused.is
+    let state_of = c.state_of-taken in
+    c.misfit_state.ensures ∙ given_none _ _ state_of.ensures _ _ c.in-Refused.is

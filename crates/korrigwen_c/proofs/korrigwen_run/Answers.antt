@@ -4,8 +4,8 @@ use Rattle.korrigwen_c.proofs.korrigwen_run.Goals as goal
 
 pub returns : goal.returns
 returns c =
-    let ran-place = c.ran_place in
-    let ran-number = c.ran_number in
-    let given-state = c.given_state in
-    run_is _ _ _ _ _ _ _ _ _ _ _ _ _ given-state.ensures c.run-ran.ensures ran-number.ensures ran-place.ensures
+    let ran_place_call = c.ran_place in
+    let ran_number_call = c.ran_number in
+    let given_state_call = c.given_state in
+    run_is _ _ _ _ _ _ _ _ _ _ _ _ _ given_state_call.ensures c.run-ran.ensures ran_number_call.ensures ran_place_call.ensures
     c.ran_reason.ensures c.state_numbers.ensures

@@ -6,7 +6,9 @@ use Rattle.layout.proofs.first_equal.Given as goal
 
 abbrev pub invariant-loop-q : goal.invariant-loop-q
 invariant-loop-q l =
-    (l.q ≤ l.p) × (first_holding (λ r. eqb (get_or l.plan r 0) l.byte) (l.p - l.q) l.q ≡ first_holding (λ r. eqb (get_or l.plan r 0) l.byte) l.p 0)
+    (l.q ≤ l.p)
+    × (first_holding (λ r. eqb (get_or l.plan r 0) l.byte) (l.p - l.q) l.q
+    ≡ first_holding (λ r. eqb (get_or l.plan r 0) l.byte) l.p 0)
 
 abbrev pub decreases-loop-q : goal.decreases-loop-q
 decreases-loop-q l = l.p - l.q

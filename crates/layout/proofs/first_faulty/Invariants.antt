@@ -6,7 +6,9 @@ use Rattle.layout.specs.Contents.{faulty_byte}
 use Rattle.layout.proofs.first_faulty.Given as goal
 
 abbrev pub invariant-loop-p : goal.invariant-loop-p
-invariant-loop-p l = (l.p ≤ 8) × (first_holding (faulty_byte l.plan l.k) (8 - l.p) l.p ≡ first_holding (faulty_byte l.plan l.k) 8 0)
+invariant-loop-p l =
+    (l.p ≤ 8)
+    × (first_holding (faulty_byte l.plan l.k) (8 - l.p) l.p ≡ first_holding (faulty_byte l.plan l.k) 8 0)
 
 abbrev pub decreases-loop-p : goal.decreases-loop-p
 decreases-loop-p l = 8 - l.p

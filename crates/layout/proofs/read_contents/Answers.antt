@@ -13,17 +13,17 @@ use Rattle.layout.proofs.read_contents.Goals.{After-first_faulty-f}
 abbrev file : After-first_faulty-f → List ℕ
 file c = c.args.s.now
 
-head-is : (c : After-first_faulty-f) → Accepted ≡ head_verdict (file c)
-head-is c =
+head_is : (c : After-first_faulty-f) → Accepted ≡ head_verdict (file c)
+head_is c =
     sym c.in_default.is ∙ c.head-verdict.ensures
 
-tables-are : (c : After-first_faulty-f) → c.wide-k.result ≡ tables (file c)
-tables-are c = c.wide-k.ensures ∙ c.number_at.ensures
+tables_are : (c : After-first_faulty-f) → c.wide-k.result ≡ tables (file c)
+tables_are c = c.wide-k.ensures ∙ c.number_at.ensures
 
-faulty-is : (c : After-first_faulty-f) → c.first_faulty-f.result ≡ fault_of (file c)
-faulty-is c =
+faulty_is : (c : After-first_faulty-f) → c.first_faulty-f.result ≡ fault_of (file c)
+faulty_is c =
     c.first_faulty-f.ensures
-    ∙ ap₂ (λ (plan : List ℕ) (k : ℕ). first_holding (faulty_byte plan k) 8 0) c.plan_of-plan.ensures (tables-are c)
+    ∙ ap₂ (λ (plan : List ℕ) (k : ℕ). first_holding (faulty_byte plan k) 8 0) c.plan_of-plan.ensures (tables_are c)
 
 pub returns-in-Refused : goal.returns-in-Refused
 returns-in-Refused c =
@@ -32,7 +32,8 @@ returns-in-Refused c =
 
 pub returns-in-At : goal.returns-in-At
 returns-in-At c =
-    c.refused_at-in-At.ensures ∙ contents_plan _ _ (head-is (goal.at.returns-in-At c).After-first_faulty-f) (sym c.in-At.is ∙ faulty-is (goal.at.returns-in-At c).After-first_faulty-f)
+    let at = (goal.at.returns-in-At c).After-first_faulty-f in
+    c.refused_at-in-At.ensures ∙ contents_plan _ _ (head_is at) (sym c.in-At.is ∙ faulty_is at)
 
 pub read_entries-requires : goal.read_entries-requires
 read_entries-requires c =
@@ -44,7 +45,8 @@ read_entries-requires c =
 
 pub returns : goal.returns
 returns c =
-    let entries : List ℕ → ℕ → Contents = λ plan k. entries_from (file (goal.at.returns c).After-first_faulty-f) k plan k 0 (12 + 16 * k) no_entries in
+    let at = (goal.at.returns c).After-first_faulty-f in
+    let entries : List ℕ → ℕ → Contents = λ plan k. entries_from (file at) k plan k 0 (12 + 16 * k) no_entries in
     c.read_entries.ensures
-    ∙ ap₂ entries c.plan_of-plan.ensures (tables-are (goal.at.returns c).After-first_faulty-f)
-    ∙ contents_entries _ (head-is (goal.at.returns c).After-first_faulty-f) (sym c.in_default-f.is ∙ faulty-is (goal.at.returns c).After-first_faulty-f)
+    ∙ ap₂ entries c.plan_of-plan.ensures (tables_are at)
+    ∙ contents_entries _ (head_is at) (sym c.in_default-f.is ∙ faulty_is at)

@@ -32,7 +32,8 @@ loop-i-preserved c =
     let read_entry = c.read_entry-read in
     let loop = c.loop-i in
     let r = judged_right _ _ _ _ (sym read_entry.ensures ∙ read) in (
-      sym (entries_go _ _ _ _ _ _ _ _ c.body_size-size.ensures.0 (omega arith) (sym read ∙ read_entry.ensures)) ∙ loop.invariant.0,
+      sym (entries_go _ _ _ _ _ _ _ _ c.body_size-size.ensures.0 (omega arith) (sym read ∙ read_entry.ensures))
+          ∙ loop.invariant.0,
       omega arith,
       omega arith,
       simp length-set loop.invariant.3,

@@ -10,7 +10,10 @@ in_range-requires c =
     (job_sound _ _ c.args.chosen.now c.requires.job_of).few
 
 pub returns-then-not-in_range : goal.returns-then-not-in_range
-returns-then-not-in_range c = record { laid = laid_as (sym (text_out _ _ _ (sym c.in_range.ensures ∙ c.if-not-in_range.true))) (laid_none _ _); upper_bound = omega arith }
+returns-then-not-in_range c = record {
+  laid = laid_as (sym (text_out _ _ _ (sym c.in_range.ensures ∙ c.if-not-in_range.true))) (laid_none _ _);
+  upper_bound = omega arith;
+}
 
 pub places_of-places-requires : goal.places_of-places-requires
 places_of-places-requires c =
@@ -20,11 +23,19 @@ pub put_line-requires : goal.put_line-requires
 put_line-requires c =
     let places_of = c.places_of-places in
     let if1 = c.if-not-in_range in
-    let pre = c.requires in record { n_bound = line_few c.args.file.now _ _ _ places_of.ensures; texts = pre.texts; by_index = line_placed _ _ _ pre.job_of (sym c.in_range.ensures ∙ if1.false) _ places_of.ensures; at_in_bounds = pre.at_in_bounds }
+    let pre = c.requires in record {
+      n_bound = line_few c.args.file.now _ _ _ places_of.ensures;
+      texts = pre.texts;
+      by_index = line_placed _ _ _ pre.job_of (sym c.in_range.ensures ∙ if1.false) _ places_of.ensures;
+      at_in_bounds = pre.at_in_bounds;
+    }
 
 pub returns : goal.returns
 returns c =
-    let put-line = c.put_line in
+    let put_line_call = c.put_line in
     let if1 = c.if-not-in_range in
-    let in_range = c.in_range in record { laid = laid_as (ap line_text (line_values _ _ _ _ c.places_of-places.ensures)
-          ∙ text_in_lem _ _ _ (sym in_range.ensures ∙ if1.false)) put-line.ensures.laid; upper_bound = put-line.ensures.upper_bound }
+    let same_values = ap line_text (line_values _ _ _ _ c.places_of-places.ensures) in
+    let text = text_in_lem _ _ _ (sym c.in_range.ensures ∙ if1.false) in record {
+      laid = laid_as (same_values ∙ text) put_line_call.ensures.laid;
+      upper_bound = put_line_call.ensures.upper_bound;
+    }

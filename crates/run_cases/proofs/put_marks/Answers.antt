@@ -9,9 +9,9 @@ put_mark-p-requires c = c.loop-i.invariant.0
 
 pub loop-i-preserved : goal.loop-i-preserved
 loop-i-preserved c =
-    let put-mark = c.put_mark-p in
+    let put_mark = c.put_mark-p in
     let loop = c.loop-i in
-    (omega arith, put-mark.auto.out ∙ loop.invariant.1)
+    (omega arith, put_mark.auto.out ∙ loop.invariant.1)
 
 pub returns : goal.returns
 returns c = omega arith

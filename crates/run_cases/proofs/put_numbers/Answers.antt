@@ -9,9 +9,9 @@ put_number-p-requires c = c.loop-i.invariant.0
 
 pub loop-i-preserved : goal.loop-i-preserved
 loop-i-preserved c =
-    let put-number = c.put_number-p in
+    let put_number = c.put_number-p in
     let loop = c.loop-i in
-    (omega arith, put-number.auto.out ∙ loop.invariant.1)
+    (omega arith, put_number.auto.out ∙ loop.invariant.1)
 
 pub returns : goal.returns
 returns c = omega arith

@@ -9,9 +9,9 @@ put_value-p-requires c = c.loop-i.invariant.0
 
 pub loop-i-preserved : goal.loop-i-preserved
 loop-i-preserved c =
-    let put-value = c.put_value-p in
+    let put_value = c.put_value-p in
     let loop = c.loop-i in
-    (omega arith, put-value.auto.out ∙ loop.invariant.1)
+    (omega arith, put_value.auto.out ∙ loop.invariant.1)
 
 pub returns : goal.returns
 returns c = omega arith

@@ -6,6 +6,6 @@ loop-calls-init c = (refl, refl)
 
 pub loop-calls-preserved : goal.loop-calls-preserved
 loop-calls-preserved c =
-    let walk-on = c.walk_on-turn in
+    let walk_on = c.walk_on-turn in
     let loop = c.loop-calls in
-    (walk-on.auto.marks ∙ loop.invariant.0, walk-on.auto.out ∙ loop.invariant.1)
+    (walk_on.auto.marks ∙ loop.invariant.0, walk_on.auto.out ∙ loop.invariant.1)

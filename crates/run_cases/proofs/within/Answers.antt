@@ -1,5 +1,5 @@
 -- `run_cases::within` answers true after every test.
-use Rattle.std.proofs.Common.{arith, ltb-false}
+use Rattle.std.proofs.Common.{arith}
 use mathlib.Core.Bool.{false≢true}
 use Rattle.run_cases.proofs.within.Goals as goal
 

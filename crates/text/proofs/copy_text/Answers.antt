@@ -24,8 +24,8 @@ put_bytes-requires c =
 
 pub returns : goal.returns
 returns c =
-    let put-bytes = c.put_bytes in
+    let put_bytes_call = c.put_bytes in
     let pre = c.requires in
     let t = part_text pre.texts pre.placed c.wide.ensures in
     let short = text_short pre.texts pre.placed in
-    record { laid = laid_as t put-bytes.ensures; upper_bound = omega (arith, put-bytes.ensures.past, ap length t) }
+    record { laid = laid_as t put_bytes_call.ensures; upper_bound = omega (arith, put_bytes_call.ensures.past, ap length t) }

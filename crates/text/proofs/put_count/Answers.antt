@@ -7,5 +7,8 @@ use Rattle.text.proofs.put_count.Goals as goal
 pub returns : goal.returns
 unfolding count_text
 returns c =
-    let put-number = c.put_number in
-    let put-bytes-ensures = c.put_bytes-p.ensures in record { laid = laid_then (omega (arith, put-bytes-ensures.past)) put-bytes-ensures put-number.ensures.laid; upper_bound = omega (arith, put-bytes-ensures.past) }
+    let put_number_call = c.put_number in
+    let put_bytes_ensures = c.put_bytes-p.ensures in record {
+      laid = laid_then (omega (arith, put_bytes_ensures.past)) put_bytes_ensures put_number_call.ensures.laid;
+      upper_bound = omega (arith, put_bytes_ensures.past);
+    }

@@ -7,6 +7,6 @@ use Rattle.text.proofs.put_field.Goals as goal
 pub returns : goal.returns
 unfolding field_text
 returns c =
-    let copy-text = c.copy_text in
-    let put-gap = c.put_gap-p in
-    record { laid = laid_then (omega arith) put-gap.ensures.laid copy-text.ensures.laid; upper_bound = omega arith }
+    let copy_text_call = c.copy_text in
+    let put_gap = c.put_gap-p in
+    record { laid = laid_then (omega arith) put_gap.ensures.laid copy_text_call.ensures.laid; upper_bound = omega arith }

@@ -25,14 +25,14 @@ loop-i-smaller c = omega arith
 
 pub loop-i-preserved : goal.loop-i-preserved
 loop-i-preserved c =
-    let put-field = c.put_field-p in
+    let put_field = c.put_field-p in
     let loop = c.loop-i in
     let args = c.args in
     let h : length args.places ≡ 32 = search rules in (
-      laid_as (spaced_more _ _ _ (omega arith)) (laid_then (omega arith) loop.invariant.0 put-field.ensures.laid),
+      laid_as (spaced_more _ _ _ (omega arith)) (laid_then (omega arith) loop.invariant.0 put_field.ensures.laid),
       omega arith,
       omega arith,
-      put-field.auto.out ∙ loop.invariant.3,
+      put_field.auto.out ∙ loop.invariant.3,
     )
 
 pub returns : goal.returns

@@ -7,7 +7,10 @@ use Rattle.text.proofs.put_fields.Given as goal
 
 abbrev pub invariant-loop-i : goal.invariant-loop-i
 invariant-loop-i l =
-    Laid (spaced_text (values_at l.file l.places l.i)) l.initial.out l.at l.out l.p × (l.p ≤ l.at + 12 * l.i) × (l.i ≤ l.n) × (length l.out ≡ length l.initial.out)
+    Laid (spaced_text (values_at l.file l.places l.i)) l.initial.out l.at l.out l.p
+    × (l.p ≤ l.at + 12 * l.i)
+    × (l.i ≤ l.n)
+    × (length l.out ≡ length l.initial.out)
 
 abbrev pub decreases-loop-i : goal.decreases-loop-i
 decreases-loop-i l = l.n - l.i

@@ -13,5 +13,8 @@ pub returns : goal.returns
 unfolding line_text
 returns c =
     let put_byte = c.put_byte in
-    let put-fields = c.put_fields-p in
-    record { laid = laid_then (omega arith) put-fields.ensures.laid put_byte.ensures; upper_bound = omega (arith, put_byte.ensures.past) }
+    let put_fields = c.put_fields-p in
+    record {
+      laid = laid_then (omega arith) put_fields.ensures.laid put_byte.ensures;
+      upper_bound = omega (arith, put_byte.ensures.past);
+    }

@@ -14,9 +14,9 @@ put_bytes-requires c =
 
 pub returns : goal.returns
 returns c =
-    let put-bytes = c.put_bytes in
+    let put_bytes_call = c.put_bytes in
     let decimal = c.decimal-k in
     let fits = c.ranges in
     let t = decimal_text _ _ _ fits.n.fits decimal.ensures.len decimal.ensures.digits in
     let short = ten_digits _ fits.n.fits in
-    record { laid = laid_as t put-bytes.ensures; upper_bound = omega (arith, put-bytes.ensures.past, ap length t) }
+    record { laid = laid_as t put_bytes_call.ensures; upper_bound = omega (arith, put_bytes_call.ensures.past, ap length t) }

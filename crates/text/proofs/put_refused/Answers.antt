@@ -8,5 +8,7 @@ pub returns : goal.returns
 unfolding refused_text
 returns c =
     let put_byte = c.put_byte in
-    let put_count = c.put_count-a in record { laid = laid_then (omega arith) (laid_then (omega arith) put_count.ensures.laid c.put_count-b.ensures.laid)
-          put_byte.ensures; upper_bound = omega (arith, put_byte.ensures.past) }
+    let counts = laid_then (omega arith) c.put_count-a.ensures.laid c.put_count-b.ensures.laid in record {
+      laid = laid_then (omega arith) counts put_byte.ensures;
+      upper_bound = omega (arith, put_byte.ensures.past);
+    }

@@ -7,9 +7,9 @@ use Rattle.text.proofs.put_stopped.Goals as goal
 pub returns-then-stopped : goal.returns-then-stopped
 unfolding stopped_text
 returns-then-stopped c =
-    let put-bytes = c.put_bytes in
+    let put_bytes_call = c.put_bytes in
     let if1 = c.if-stopped in
-    rw if1.true (record { laid = put-bytes.ensures; upper_bound = omega (arith, put-bytes.ensures.past) })
+    rw if1.true (record { laid = put_bytes_call.ensures; upper_bound = omega (arith, put_bytes_call.ensures.past) })
 
 pub returns : goal.returns
 unfolding stopped_text

@@ -1,0 +1,2 @@
+pub mod Natural
+pub mod Impostors
