@@ -1,9 +1,8 @@
 #!/bin/sh
 # examples/test.sh: builds the C and the Python example, runs them on the jobs here and on those of make_cases.py, and
 # compares what they print with what the program prints. Last line: `examples: N passed`; exit 1 where one differs.
-# It needs cc, python3, target/bin/korrigwen (`rt check korrigwen`) and target/staticlib/libkorrigwen_c.a
-# (`rt staticlib korrigwen_c`); on other processors than x86-64 target/here/libkorrigwen_c.a (`harness/archive.sh`) instead,
-# and where that is missing the C example is left out.
+# It needs cc, python3, target/bin/korrigwen and target/staticlib/libkorrigwen_c.a (`tools/build.sh korrigwen korrigwen_c`),
+# and so an x86-64 machine.
 set -eu
 here=$(cd "$(dirname "$0")" && pwd)
 top=$(dirname "$here")
@@ -13,7 +12,7 @@ export PYTHONDONTWRITEBYTECODE=1 # no folder of Python's beside the examples
 passed=0
 failed=0
 
-# ./korrigwen knows how to start the program on every machine, by the kit's rt; without rt it is started as it is.
+# ./korrigwen builds the program anew where it is older than its source; without rt it is started as it is.
 program() {
     if command -v rt >"$work/rt"; then "$top/korrigwen" "$1"; else "$top/target/bin/korrigwen" <"$1"; fi
 }
@@ -40,23 +39,14 @@ said_so() { # JOB PRINTED
 try() { # JOB
     program "$1" >"$work/expected"
     said_so "$1" "$work/expected"
-    if [ -n "$c_program" ]; then
-        "$c_program" "$1" >"$work/c" || true
-        same "join.c on $(basename "$1")" "$work/expected" "$work/c"
-    fi
+    "$work/join" "$1" >"$work/c" || true
+    same "join.c on $(basename "$1")" "$work/expected" "$work/c"
     python3 "$here/python/join.py" "$1" >"$work/python" || true
     same "join.py on $(basename "$1")" "$work/expected" "$work/python"
 }
 
 archive=$top/target/staticlib/libkorrigwen_c.a
-[ "$(uname -m)" = x86_64 ] || archive=$top/target/here/libkorrigwen_c.a
-c_program=
-if [ "$(uname -m)" = x86_64 ] || [ -f "$archive" ]; then
-    c_program=$work/join
-    cc -std=c11 -O2 -Wall -Wextra -Werror -I"$top/include" "$here/c/join.c" "$archive" -o "$c_program"
-else
-    echo "examples: the C example is left out here: the archive is for x86-64, and harness/archive.sh was not run"
-fi
+cc -std=c11 -O2 -Wall -Wextra -Werror -I"$top/include" "$here/c/join.c" "$archive" -o "$work/join"
 python3 "$here/make_households.py" "$work/households.job"
 same "households.job and what make_households.py writes" "$here/households.job" "$work/households.job"
 python3 "$here/make_cases.py" "$work/cases"

@@ -1,8 +1,8 @@
 #!/usr/bin/env bash
-# harness/test.sh: the tests that need more than the kit. They use what `rt ci` or `rt check` built in target/: the
-# programs and the library's archive, which is written here. On other processors than x86-64 the archive is the one that
-# archive.sh compiles from the same module, and some of the jobs go through the programs too, in the kit's emulator: all of
-# them would take half an hour. Exit 1 at the first test that fails.
+# harness/test.sh: the tests that need more than the kit. They use what `rt ci` left: the programs, and the proved libraries from which
+# tools/build.sh makes the archive. What is not there it builds, proofs first. The kit is for x86-64, and so are these tests; on another
+# processor two of them can be run over an archive that harness/archive.sh made elsewhere (README.md here). Exit 1 at the first test
+# that fails.
 set -euo pipefail
 cd "$(dirname "$0")/.."
 
@@ -14,16 +14,9 @@ need cargo cargo
 need cc gcc
 need python3 python3
 
+tools/build.sh korrigwen read_cases run_cases korrigwen_c
 cd harness
-if [ "$(uname -m)" = x86_64 ]; then
-    (cd .. && rt staticlib korrigwen_c | tail -n 1)
-    cargo test --quiet --release -p korrigwen-harness -p korrigwen
-    cargo run --quiet --release --bin differential
-else
-    ./archive.sh
-    export KORRIGWEN_ARCHIVE_DIR=$PWD/../target/here
-    cargo test --quiet --release -p korrigwen-harness -p korrigwen
-    cargo run --quiet --release --bin differential
-    cargo run --quiet --release --bin differential -- --through programs --jobs 5000
-fi
+cargo test --quiet --release -p korrigwen-harness -p korrigwen
+cargo run --quiet --release --bin differential
+cargo run --quiet --release --bin differential -- --through programs --jobs 5000
 ../examples/test.sh

@@ -3,9 +3,9 @@
 
     python3 examples/python/join.py FILE
 
-Python loads shared libraries only, so one is linked from target/staticlib/libkorrigwen_c.a with cc, once. The archive
-is for x86-64; on other processors ./korrigwen, which starts the program by the kit's emulator, is run through a pipe
-and its output taken apart. The structures below are those of include/korrigwen.h, in its order.
+Python loads shared libraries only, so one is linked from target/staticlib/libkorrigwen_c.a with cc, once. That archive
+is for x86-64; on aarch64 it is target/aarch64/libkorrigwen_c.a, which has to be brought from an x86-64 machine, where
+`harness/archive.sh aarch64` writes it. The structures below are those of include/korrigwen.h, in its order.
 """
 import ctypes
 import pathlib
@@ -15,7 +15,7 @@ import sys
 from ctypes import POINTER, Structure, c_int32, c_size_t, c_uint8, c_uint32
 
 TOP = pathlib.Path(__file__).resolve().parents[2]
-ARCHIVE = TOP / "target/staticlib/libkorrigwen_c.a"
+ARCHIVE = TOP / "target" / ("staticlib" if platform.machine() == "x86_64" else platform.machine()) / "libkorrigwen_c.a"
 SHARED = TOP / "target/examples/libkorrigwen_c.so"
 
 MOST_FILE, MOST_MARKS, MOST_VALUES = 65535, 16383, 32
@@ -116,7 +116,7 @@ class Job:
         return sum(mark != 0 for mark in self.marks[:rows])
 
 
-def print_by_library(data):
+def print_join(data):
     job = Job(load(), data)
     reason = None
     while reason not in (ENDED, AT_STEP_LIMIT):
@@ -128,27 +128,12 @@ def print_by_library(data):
           % (stopped, state.lookups, state.records, job.marked(), state.steps))
 
 
-def print_by_program(path):
-    """For other processors: takes the lines of ./korrigwen apart, as a page would that has no library."""
-    done = subprocess.run([str(TOP / "korrigwen"), path], stdout=subprocess.PIPE, check=True, text=True)
-    *records, last = done.stdout.splitlines()
-    words = last.split()
-    if words[0] == "refused":
-        raise Refused(int(words[1]), int(words[3]))
-    for line in records:
-        print(*[int(word) for word in line.split()])
-    print(*words)
-
-
 def main():
     if len(sys.argv) != 2:
         sys.exit("usage: join.py FILE")
     try:
-        if platform.machine() == "x86_64":
-            with open(sys.argv[1], "rb") as file:
-                print_by_library(file.read(MOST_FILE + 1))  # one byte more, so that a longer file shows
-        else:
-            print_by_program(sys.argv[1])
+        with open(sys.argv[1], "rb") as file:
+            print_join(file.read(MOST_FILE + 1))  # one byte more, so that a longer file shows
     except Refused as refusal:
         print("refused %d at %d" % refusal.args)
 

@@ -20,7 +20,7 @@ fn compiler() -> String {
     String::from_utf8_lossy(&said.stdout).trim().to_owned()
 }
 
-/// What harness/archive.sh says beside its archive; `rt staticlib` says nothing beside its own.
+/// What harness/archive.sh says beside its archive; `rt lib` says nothing beside its own.
 fn library() -> String {
     let Some(folder) = env::var_os("DEP_KORRIGWEN_C_FOLDER") else {
         eprintln!("there is no archive to link: harness/archive.sh writes one, and KORRIGWEN_ARCHIVE_DIR names its folder");
@@ -31,6 +31,6 @@ fn library() -> String {
     match fs::read_to_string(about) {
         Ok(text) => text.trim().to_owned(),
         Err(_) if env::var_os("KORRIGWEN_ARCHIVE_DIR").is_some() => "not said how built".to_owned(),
-        Err(_) => "the archive that `rt staticlib korrigwen_c` writes".to_owned(),
+        Err(_) => "the archive that `rt lib` writes".to_owned(),
     }
 }

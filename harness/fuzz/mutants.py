@@ -7,7 +7,6 @@ this says nothing about the library; it says how much of a wrong one the target 
 did not find, and then `mutants: F of N found`. Run harness/fuzz/build.sh first.
 """
 import pathlib
-import platform
 import re
 import shutil
 import subprocess
@@ -16,7 +15,6 @@ import sys
 TOP = pathlib.Path(__file__).resolve().parents[2]
 OUT = TOP / "target/fuzz"
 WORK = OUT / "mutant"
-MACHINE = platform.machine()
 OTHER = {"ult": "ule", "ule": "ult", "ugt": "uge", "uge": "ugt", "slt": "sle", "sle": "slt", "sgt": "sge",
          "sge": "sgt", "eq": "ne", "ne": "eq"}
 COMPARISON = re.compile(r"(= icmp )(\w+)( )")
@@ -24,8 +22,8 @@ COUNT = re.compile(r"(= add (?:nuw |nsw )*i(?:32|64) %\w+, )(1)()$")
 
 
 def toolchain():
-    kit = pathlib.Path(subprocess.run(["rt", "doc"], stdout=subprocess.PIPE, check=True, text=True).stdout.strip())
-    return kit.parent.parent / "on" / MACHINE / "toolchain"
+    page = pathlib.Path(subprocess.run(["rt", "doc"], stdout=subprocess.PIPE, check=True, text=True).stdout.strip())
+    return page.parent / "toolchain"
 
 
 def mutants(lines):
@@ -42,7 +40,7 @@ def mutants(lines):
 def build(tools, lines):
     module = WORK / "mutant.ll"
     module.write_text("\n".join(lines))
-    subprocess.run([str(tools / "bin/clang"), "--target=%s-unknown-linux-gnu" % MACHINE, "--sysroot=%s" % tools, "-x",
+    subprocess.run([str(tools / "bin/clang"), "--target=x86_64-unknown-linux-gnu", "--sysroot=%s" % tools, "-x",
                     "ir", str(module), "-c", "-fPIC", "-O0", "-fsanitize=address", "-o", str(WORK / "mutant.o"),
                     "-fsanitize-coverage=inline-8bit-counters,pc-table,trace-cmp"], check=True)
     subprocess.run(["clang-14", "-fsanitize=fuzzer,address", str(OUT / "fuzz.o"), str(WORK / "mutant.o"), "-o",

@@ -1,5 +1,5 @@
 //! Finds the archive `libkorrigwen_c.a`: in the folder that KORRIGWEN_ARCHIVE_DIR names, or else
-//! where `rt staticlib korrigwen_c` writes it. Where there is one the crate is compiled with the
+//! where `tools/build.sh korrigwen_c` writes it. Where there is one the crate is compiled with the
 //! cfg `linked`, and the crates over it are told its folder.
 
 use std::path::{Path, PathBuf};
@@ -15,7 +15,7 @@ fn main() {
     println!("cargo::rerun-if-changed={}", archive.display());
     if !archive.is_file() {
         eprintln!(
-            "{} is missing: `rt staticlib korrigwen_c` writes one for x86-64, harness/archive.sh one for this machine",
+            "{} is missing: `tools/build.sh korrigwen_c` writes one for x86-64, `harness/archive.sh aarch64` one for aarch64",
             archive.display()
         );
         process::exit(1);
@@ -26,8 +26,8 @@ fn main() {
     println!("cargo::metadata=FOLDER={}", folder.display());
 }
 
-/// The folder of the archive. `rt staticlib` writes one for x86-64 alone, so elsewhere there is none
-/// unless it is named.
+/// The folder of the archive. The kit runs on x86-64 alone, so elsewhere there is none unless it is
+/// named.
 fn folder() -> Option<PathBuf> {
     let manifest = env::var_os("CARGO_MANIFEST_DIR").expect("cargo names the folder");
     // A relative name counts from the folder above, `harness`, where cargo is called.

@@ -1,9 +1,8 @@
 #!/bin/sh
 # harness/worst/worst.sh: measures what calls, runs and the program can cost at worst, for docs/LIMITS.md. It takes some
 # three minutes on an idle machine, and more where the slowest run has to be sampled.
-# It needs cc, python3, the kit and target/bin/korrigwen. The library is the one that harness/archive.sh compiles for this
-# machine. The program is for x86-64: on other processors the kit's emulator runs it, so that its times there are the
-# emulator's, and are marked so; its memory and stack are left out there.
+# It needs cc, python3 and the kit, which is for x86-64. The library is the one of harness/archive.sh; the program is
+# target/bin/korrigwen, built here where it is missing.
 set -eu
 here=$(cd "$(dirname "$0")" && pwd)
 top=$(dirname "$(dirname "$here")")
@@ -15,9 +14,8 @@ LIMIT=16777216
 SAMPLE=20000   # steps by which the jobs are compared
 LONG=120       # a run that would take more seconds than this is cut after MOST_TIME seconds' worth of steps
 MOST_TIME=40
-emulated=
-[ "$(uname -m)" = x86_64 ] || emulated=" in the emulator"
 mkdir -p "$out"
+"$top/tools/build.sh" korrigwen
 "$top/harness/archive.sh"
 PYTHONDONTWRITEBYTECODE=1 python3 "$here/make_jobs.py" "$jobs"
 # Bound at once, or the loader's work at the first call of memcpy would count as the library's stack.
@@ -48,21 +46,13 @@ whole_run() { # JOB
 
 seconds() { awk -v from="$1" -v to="$(date +%s.%N)" 'BEGIN { printf "%.1f", to - from }'; }
 
-run_program() { # JOB
-    if [ -z "$emulated" ]; then
-        "$program" <"$1"
-    else
-        "$top/korrigwen" "$1"
-    fi
-}
-
 whole_output() { # JOB
     from=$(date +%s.%N)
-    run_program "$1" >/dev/null
+    "$program" <"$1" >/dev/null
     took=$(seconds "$from")
     from=$(date +%s.%N)
-    bytes=$(run_program "$1" | wc -c)
-    echo "$(basename "$1"), $(wc -c <"$1") bytes: $took s to /dev/null, $(seconds "$from") s through a pipe$emulated," \
+    bytes=$("$program" <"$1" | wc -c)
+    echo "$(basename "$1"), $(wc -c <"$1") bytes: $took s to /dev/null, $(seconds "$from") s through a pipe," \
         "$bytes bytes written"
 }
 
@@ -106,4 +96,4 @@ head_line "the library's memory: no data, no bss"
 size "$archive"
 head_line "stack of the library's functions"
 "$out/worst" stack "$jobs/eight-16columns.job"
-[ -n "$emulated" ] || memory_and_stack
+memory_and_stack

@@ -5,8 +5,8 @@
 //! and then no lent area has been written to. The library keeps nothing between calls and may be
 //! called from several threads at once.
 //!
-//! `rt staticlib` writes the library for x86-64. On other processors this crate compiles and exports
-//! nothing, unless KORRIGWEN_ARCHIVE_DIR names a folder with an archive for the machine.
+//! `tools/build.sh korrigwen_c` writes the library for x86-64. On other processors this crate compiles
+//! and exports nothing, unless KORRIGWEN_ARCHIVE_DIR names a folder with an archive for the machine.
 
 #![warn(missing_docs)]
 

@@ -1,7 +1,6 @@
 //! The case programs as an engine: calls go as frames to `read_cases` and
 //! `run_cases`, and the lines that these print are compared with the lines that
-//! the model expects. Programs are for x86-64; elsewhere the kit's emulator runs
-//! them, as in the script `korrigwen`.
+//! the model expects. Programs are for x86-64.
 
 use std::io::{BufRead, BufReader, Write};
 use std::path::{Path, PathBuf};
@@ -214,30 +213,14 @@ fn mismatch(at: At, what: String) -> Mismatch {
 
 // ---- starting programs ------------------------------------------------------------
 
-/// The command that runs a program: by the loader of the kit, in its emulator
-/// where there is one. Without the kit, the program itself.
+/// The command that runs a program.
 fn command(name: &str) -> io::Result<Command> {
     let program = folder().join(name);
     if !program.is_file() {
-        let what = format!("{}: `rt check {name}` writes it", program.display());
+        let what = format!("{}: `tools/build.sh {name}` writes it", program.display());
         return Err(io::Error::new(io::ErrorKind::NotFound, what));
     }
-    let Some(tools) = tools() else {
-        return Ok(Command::new(program));
-    };
-    let libraries = tools.join("lib");
-    let loader = libraries.join("ld-linux-x86-64.so.2");
-    let emulator = tools.join("bin/qemu-x86_64");
-    let mut command = match emulator.is_file() {
-        true => {
-            let mut command = Command::new(emulator);
-            command.arg(loader);
-            command
-        }
-        false => Command::new(loader),
-    };
-    command.arg("--library-path").arg(libraries).arg(program);
-    Ok(command)
+    Ok(Command::new(program))
 }
 
 /// The folder of the programs.
@@ -246,16 +229,6 @@ fn folder() -> PathBuf {
         Some(folder) => PathBuf::from(folder),
         None => Path::new(env!("CARGO_MANIFEST_DIR")).join("../target/bin"),
     }
-}
-
-/// The kit's tools for this processor, found by where `rt doc` says its guides
-/// are.
-fn tools() -> Option<PathBuf> {
-    let output = Command::new("rt").arg("doc").output().ok()?;
-    let guide = String::from_utf8(output.stdout).ok()?;
-    let kit = Path::new(guide.trim()).parent()?.parent()?;
-    let tools = kit.join("on").join(env::consts::ARCH).join("toolchain");
-    tools.is_dir().then_some(tools)
 }
 
 #[cfg(test)]
