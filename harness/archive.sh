@@ -13,8 +13,8 @@ set -eu
 cd "$(dirname "$0")/.."
 machine=${1:-x86_64}
 case $machine in
-x86_64) out=$PWD/target/here ;;
-aarch64) out=$PWD/target/aarch64 ;;
+x86_64) out=$PWD/target/here from="the module that the archive of \`rt lib\` is compiled from" ;;
+aarch64) out=$PWD/target/aarch64 from="the module that rattle makes of the library for it" ;;
 *)
     echo "usage: harness/archive.sh [x86_64 | aarch64]" >&2
     exit 2
@@ -63,6 +63,6 @@ quietly "$out/build.log" build_static korrigwen_c "$out/libkorrigwen_c.a" "$out/
     --incremental out/incremental
 write_text
 version=$("$tools/bin/clang" --version | sed -n '1s/.*version \([0-9.]*\).*/\1/p')
-echo "compiled for $machine by the kit's clang $version at -O3, from the module that the archive of \`rt lib\` is" \
-    "compiled from, with functions and loops at multiples of 64 bytes" >"$out/about.txt"
+echo "compiled for $machine by the kit's clang $version at -O3, from $from, with functions and loops at multiples of 64 bytes" \
+    >"$out/about.txt"
 echo "archive: ${out#"$PWD/"}/libkorrigwen_c.a is for $machine"

@@ -1,5 +1,6 @@
 /* Korrigwen for C: reading a job file, beginning and running its join, and joining a record's values.
- * Link with target/staticlib/libkorrigwen_c.a (x86-64 Linux), which `tools/build.sh korrigwen_c` writes.
+ * Link with target/staticlib/libkorrigwen_c.a (x86-64 Linux, a processor of the level x86-64-v2), which
+ * `tools/build.sh korrigwen_c` writes.
  *
  * No function asks its caller to check anything first: a bad file, mark area, state or record gets a number
  * with a place, and then no lent area has been written to. What the caller owes is that each pointer is good
