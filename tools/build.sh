@@ -1,7 +1,7 @@
 #!/bin/sh
 # tools/build.sh NAME..: proves and builds these crates, and puts what they make where README and the tests take it from: a program at
 # target/bin/NAME, the static library at target/staticlib/libNAME.a. What is newer than every source stays. What rt said stands in
-# target/build.log; exit 1 and its last lines where a crate is not proved.
+# target/build.log; exit 1 and some of it where a crate is not proved.
 #
 # rt itself writes both into crates/NAME/out/, but `rt ci` takes the archive away from there. It leaves the programs that it built and
 # ran, and these are taken as they are, so that nothing is proved twice after `rt ci`.
@@ -17,10 +17,13 @@ in_crate() { # NAME COMMAND...
     (cd "crates/$1" && shift && "$@")
 }
 
-# Runs a command of the kit's and shows its verdict.
+# Runs a command of the kit's and shows its verdict, or the end of what it said, but for the lines that count modules.
 logged() { # COMMAND...
     echo "building, once: the proofs are checked first" >&2
-    "$@" >target/build.log 2>&1 </dev/null || { tail -n 20 target/build.log >&2; exit 1; }
+    "$@" >target/build.log 2>&1 </dev/null || {
+        grep -vE '^(statements|library|crate|logic) ' target/build.log | tail -n 20 >&2
+        exit 1
+    }
     grep '^logic=' target/build.log | tail -n 1
 }
 
