@@ -24,20 +24,24 @@ esac
 target=$machine-unknown-linux-gnu
 tools=$kit/toolchain
 
-# A command whose output is shown where it fails.
+# A command whose output is shown where it fails, but for the lines that count modules.
 quietly() { # LOG COMMAND...
     log=$1
     shift
-    "$@" >"$log" 2>&1 || { tail -n 20 "$log" >&2; exit 1; }
+    "$@" >"$log" 2>&1 || {
+        grep -vE '^(statements|library|crate|logic) ' "$log" | tail -n 20 >&2
+        exit 1
+    }
 }
 
-# A toolchain whose clang keeps the module. clang leaves some loops where they are. With each function at a multiple of 64, which the
-# last option gives as a power of 2, those are at least in the same place of their line in every program.
+# A toolchain whose clang keeps the module, outside the checkout, since `rt ci` refuses links in there. clang leaves some loops where
+# they are. With each function at a multiple of 64, which the last option gives as a power of 2, those are at least in the same place
+# of their line in every program.
 wrap_toolchain() {
-    mkdir -p "$out/toolchain/bin"
-    ln -sfn "$tools/lib" "$out/toolchain/lib"
-    ln -sf "$tools/bin/llvm-ar" "$tools/bin/ld.lld" "$out/toolchain/bin/"
-    cat >"$out/toolchain/bin/clang" <<SCRIPT
+    mkdir "$wrapped/bin"
+    ln -s "$tools/lib" "$wrapped/lib"
+    ln -s "$tools/bin/llvm-ar" "$tools/bin/ld.lld" "$wrapped/bin/"
+    cat >"$wrapped/bin/clang" <<SCRIPT
 #!/bin/sh
 cp module.bc "$out/module.bc"
 case " \$* " in
@@ -45,7 +49,7 @@ case " \$* " in
 esac
 exec "$tools/bin/clang" "\$@"
 SCRIPT
-    chmod +x "$out/toolchain/bin/clang"
+    chmod +x "$wrapped/bin/clang"
 }
 
 # The module as text, as it is.
@@ -57,9 +61,11 @@ lib() { (cd crates/korrigwen_c && rt lib); }
 
 mkdir -p "$out"
 rm -f "$out/module.bc" "$out/libkorrigwen_c.a"
+wrapped=$(mktemp -d)
+trap 'rm -rf "$wrapped"' EXIT
 quietly "$out/lib.log" lib
 wrap_toolchain
-quietly "$out/build.log" build_static korrigwen_c "$out/libkorrigwen_c.a" "$out/toolchain" --target "$target" \
+quietly "$out/build.log" build_static korrigwen_c "$out/libkorrigwen_c.a" "$wrapped" --target "$target" \
     --incremental out/incremental
 write_text
 version=$("$tools/bin/clang" --version | sed -n '1s/.*version \([0-9.]*\).*/\1/p')

@@ -1,4 +1,5 @@
 # tools/kit.sh: what the scripts know of the Rattle kit. tools/build.sh and harness/archive.sh read it, at the top of the checkout.
+# shellcheck shell=sh
 
 # The kit's folder: the one of the page that `rt doc` names.
 kit=$(rt doc)
