@@ -1,5 +1,5 @@
 -- `layout::judge` makes the tests of its definition in their order; each return cites the law of its outcome.
-use Rattle.std.proofs.Common.{arith, sym, ◌∙◌, ap, ℕ}
+use Rattle.std.proofs.Common.{arith, rules, sym, ◌∙◌, ap, ℕ}
 use Rattle.layout.specs.ContentsLaws.{outside_false, judged_columns, judged_fields, judged_rows, judged_offset, judged_body}
 use Rattle.layout.specs.ContentsLaws.{judged_kept}
 use Rattle.layout.specs.Contents.{is_outside}
@@ -15,7 +15,7 @@ returns-then-misfit c =
 pub returns-then-fields-ones : goal.returns-then-fields-ones
 returns-then-fields-ones c =
     let outside = c.outside-misfit in
-    let fit = outside_false _ _ _ (sym outside.ensures ∙ c.if-misfit.false) in
+    let fit = outside_false _ _ _ (sym outside.ensures ∙ search rules) in
     judged_fields _ _ _ (omega arith) (omega arith) (omega arith)
 
 pub returns-then-rows-gt-MOST_ROWS : goal.returns-then-rows-gt-MOST_ROWS
