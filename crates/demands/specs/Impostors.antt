@@ -175,10 +175,17 @@ module _ (run : Runner) (keeps : KeepsStep run) (cs : List Call) where
       let one = computed.one in
       omega arith
 
-  -- after the last step of W its lookup figure is 5; so a figure made up to fit the bound, which allows 6, is another:
-  -- proved as `own_figure` and `made_up_figure` of proofs/Impostors.antt
+  -- after the last step of W its lookup figure is 5: `own_figure` of proofs/Impostors.antt
   abbrev pub OwnFigure : Type 0
   OwnFigure = after.state.steps ≡ 12 → after.state.lookups ≡ 5
+
+  -- so a figure made up to fit the bound, which allows 6, is another: `made_up_figure` of proofs/Impostors.antt
+  abbrev pub MadeUpFigure : Type 0
+  MadeUpFigure =
+      after.state.steps ≡ 12
+      → after.state.lookups
+      ≡ ((positions_in job_w).k - 1) * (after.state.records + marked_in after.marks (positions_in job_w).total)
+      → ⊥
 
 -- the sentence on budgets
 abbrev pub KeepsBudget : Runner → Type 0

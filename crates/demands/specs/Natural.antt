@@ -21,8 +21,8 @@ use Rattle.join.proofs.NaturalLaws
 use Rattle.join.specs.Calls.{Call, Standing, begun, called, calls, Began, Able, start}
 use Rattle.join.proofs.CallLaws
 use Rattle.join.specs.Blame.{blamed_rows, marked_by}
-use Rattle.join.proofs.Marks.{OfJob, Once}
-use Rattle.join.proofs.Theorems.{enough}
+use Rattle.join.specs.Blame.{OfJob, Once}
+use Rattle.join.specs.Natural.{enough}
 use Rattle.join.proofs.Theorems as Procedure
 use Rattle.join.proofs.Outcome
 use Rattle.job.specs.Read.{JobAccepted}

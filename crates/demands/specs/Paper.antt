@@ -19,8 +19,8 @@ use Rattle.join.specs.Instance.{tables_in}
 use Rattle.paper.specs.Figures.{binary_join}
 use Rattle.paper.specs.Parents.{parent}
 use Rattle.paper.specs.Parents as Parents
-use Rattle.paper.proofs.Job.{figure}
-use Rattle.paper.proofs.Theorems.{SameAs}
+use Rattle.paper.specs.Ran.{figure}
+use Rattle.paper.specs.Ran.{SameAs}
 use Rattle.paper.proofs.Theorems as Theorems
 
 -- ---- Figure 2b

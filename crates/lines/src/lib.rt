@@ -12,6 +12,7 @@ use rows::Positions;
 
 // The line of a record, laid at a place of the area; nothing where a row number is out of range. The
 // answer is the place after it.
+#[tactic(auto, using(crate::specs::LineLaws::text_out, areas::specs::Written::written_none))]
 pub fn put_record(
     file: &[u8],
     g: Positions,

@@ -5,3 +5,4 @@ pub mod TurnLaws
 pub mod Tests
 pub mod Procedure
 pub mod Trace
+pub mod Pausing

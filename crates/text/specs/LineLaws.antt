@@ -11,6 +11,10 @@ unfolding gap_text
 gap_later zero h = absurd (h refl)
 gap_later (suc i) h = refl
 
+pub no_gap : (i : ℕ) → i ≡ 0 → gap_text i ≡ []
+unfolding gap_text
+no_gap i e = rw e
+
 -- ---- one more value
 spaced_next : (zs : List ℤ) (z : ℤ) → spaced_text (zs ++ (z ∷ [])) ≡ spaced_text zs ++ field_text (length zs) z
 unfolding spaced_text field_text gap_text

@@ -131,6 +131,7 @@ fn copy_text(
 }
 
 // What stands before value i of a line: a space, and before the first nothing.
+#[tactic(auto, using(crate::specs::LineLaws::no_gap, areas::specs::Written::written_none, crate::specs::LineLaws::gap_later))]
 fn put_gap(i: usize, out: &mut [u8], at: usize) -> usize
     requires { at < length out.old }
     ensures laid { Laid (gap_text i) out.old at out.new result }
