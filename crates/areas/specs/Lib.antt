@@ -1,3 +1,4 @@
 pub mod Filled
 pub mod Copied
 pub mod Written
+pub mod Mapped

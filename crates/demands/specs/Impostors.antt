@@ -2,23 +2,23 @@
 -- here is anything that might stand in the place of `read` or `run`; what refutes it is one sentence of the theorem
 -- page, kept for every input. That `read` and `run` keep these sentences is on the page.
 use Rattle.std.specs.Prelude.{ℕ, ◌+◌, ◌-◌, ◌*◌, ◌≤◌, ◌<◌, ◌≡◌, refl, ◌↔◌, ◌≢◌, List, [], ◌∷◌, reverse, true}
-use Rattle.std.specs.Prelude.{false, length, replicate}
+use Rattle.std.specs.Prelude.{false, length, replicate, Result}
 use Rattle.std.proofs.Common.{sym, ap, ◌∙◌, arith}
 use Rattle.std.proofs.Math.Decide.{ℕ_discrete}
 use Rattle.numbers.specs.Numbers.{number_at, signed, value_at}
-use Rattle.search.specs.First.{found_or, first_holding, is_found}
+use Rattle.search.specs.First.{found_or, first_holding}
 use Rattle.columns.specs.Columns.{has, columns_below, implies, every_below}
-use Rattle.layout.specs.declared.Verdict.TheVariants.{Accepted}
+use Rattle.layout.specs.declared.Refused.{Refused}
 use Rattle.layout.specs.Layout.{Layout}
 use Rattle.layout.specs.Contents.{is_outside, refuse_if, head_verdict, repeated, faulty_byte, end_if, judged, ending}
 use Rattle.layout.specs.Contents.{on_entry, entries_from, after_head, after_plan, contents_of}
 use Rattle.plan.specs.Ears.{occurs, is_key, has_keys}
 use Rattle.plan.specs.Parents.{on_parent, parents_from, parents_of}
 use Rattle.plan.specs.Paper.{ReductionOrder}
-use Rattle.job.specs.declared.Reading.{Reading}
+use Rattle.job.specs.declared.Job.{Job}
 use Rattle.job.specs.Query.{query_in, plan_in}
 use Rattle.job.specs.Read
-use Rattle.job.specs.Read.{after_contents, plan_parents, read_contents, read_answer, JobAccepted}
+use Rattle.job.specs.Read.{plan_parents, read_contents, read_answer, Accepted, JobAccepted}
 use Rattle.job.specs.Theorems.{not_accepted}
 use Rattle.rows.specs.Rows.{positions_in, rows_before, value_of, agree, agree_on}
 use Rattle.values.specs.Values.{pair_agrees, rows_agree}
@@ -64,10 +64,10 @@ pub record Computed : Type 0 where
       ≡ 6
 
 pub computed : Computed
-unfolding le bytes file W twins empty read_answer read_contents after_contents Read.after_plan plan_parents
+unfolding le bytes file W twins empty read_answer read_contents Read.after_plan plan_parents
     contents_of after_head after_plan head_verdict is_outside refuse_if repeated faulty_byte end_if judged
     ending on_entry entries_from parents_of parents_from on_parent occurs is_key has_keys has columns_below
-    implies every_below first_holding found_or is_found number_at rows_before begun begin_in begin_answer
+    implies every_below first_holding found_or number_at rows_before begun begin_in begin_answer
     iterate core_step marked_in mark_of live matches next_row chose fruitless advance_of lookup_of lookup_marks
     step_of step_marks natural_join choices_from with_row only along rows_agree pair_agrees agree_on agree
     value_of value_at signed
@@ -88,26 +88,26 @@ computed = record {
 }
 
 -- a file of no bytes is refused
-none_refused : (read_answer []).verdict ≢ Accepted
-unfolding read_answer read_contents after_contents contents_of after_head head_verdict is_outside refuse_if
+none_refused : Accepted (read_answer []) → ⊥
+unfolding read_answer read_contents contents_of after_head head_verdict is_outside refuse_if
 none_refused e = not_accepted e
 
 -- ---- readers
 -- the sentence of acceptance
-abbrev pub AcceptsExactly : (List ℕ → Reading) → Type 0
+abbrev pub AcceptsExactly : (List ℕ → Result Job Refused) → Type 0
 AcceptsExactly read =
-    (s : List ℕ) → ((read s).verdict ≡ Accepted) ↔ (Layout s × ReductionOrder (query_in s) (reverse (plan_in s)))
+    (s : List ℕ) → Accepted (read s) ↔ (Layout s × ReductionOrder (query_in s) (reverse (plan_in s)))
 
 pub read_keeps : AcceptsExactly read_answer
 read_keeps = accepted_exactly
 
-module _ (read : List ℕ → Reading) (keeps : AcceptsExactly read) where
+module _ (read : List ℕ → Result Job Refused) (keeps : AcceptsExactly read) where
   -- a reader that refuses everything
-  pub refuses_all : ((s : List ℕ) → (read s).verdict ≢ Accepted) → ⊥
+  pub refuses_all : ((s : List ℕ) → Accepted (read s) → ⊥) → ⊥
   refuses_all h = h job_w ((keeps job_w).1 ((accepted_exactly job_w).0 computed.accepted))
 
   -- a reader that accepts everything
-  pub accepts_all : ((s : List ℕ) → (read s).verdict ≡ Accepted) → ⊥
+  pub accepts_all : ((s : List ℕ) → Accepted (read s)) → ⊥
   accepts_all h = none_refused ((accepted_exactly []).1 ((keeps []).0 (h [])))
 
 -- ---- runners

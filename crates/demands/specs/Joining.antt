@@ -1,11 +1,11 @@
 -- Joining values, and a state as numbers: what `join_values`, `numbers_of` and `state_of` answer, for every file,
 -- record, value area, state and list of numbers. Their contracts are equations with `values_answer`, `numbers_of` and
 -- `state_of`.
+use Rattle.std.specs.Prelude.{Some, Ok}
 use Rattle.std.specs.Prelude.{ℕ, ◌≤◌, ◌<◌, ◌≡◌, ◌↔◌, ◌≢◌, ◌⊎◌, List, true, length, get_or, ℤ}
-use Rattle.search.specs.declared.Found.TheVariants.{At}
 use Rattle.layout.specs.declared.Refusal.{Refusal}
 use Rattle.layout.specs.declared.Refusal.TheVariants.{State as StateRow}
-use Rattle.layout.specs.declared.Verdict.TheVariants.{Accepted, Refused}
+use Rattle.layout.specs.Contents.{refused as refused_by}
 use Rattle.layout.specs.Numbers.{number_of, answer_of}
 use Rattle.layout.specs.Numbers.{refused as reading_refused}
 use Rattle.job.specs.Read.{JobAccepted}
@@ -71,7 +71,7 @@ module _ (s r : List ℕ) (area : List ℤ) where
     -- stands the value of a column, in the row of the first position that has it
     pub column_value : (c : ℕ) → c < 32 → is_column g c ≡ true → (d : ℤ)
         → (p : ℕ)
-        × (first_with g c ≡ At p)
+        × (first_with g c ≡ Some p)
         × (get_or after (columns_up_to g c) d ≡ value_of s (entry_of g p) (row_at r p) c)
     column_value = values.column_value s r area n answers
 
@@ -84,15 +84,15 @@ module _ (s r : List ℕ) (area : List ℤ) where
 pub numbers_back : (t : State) → length t.chosen ≡ 8 → state_of (numbers_of t) ≡ taken t
 numbers_back = flat.back
 
-pub numbers_forth : (n : List ℕ) → (state_of n).verdict ≡ Accepted → numbers_of (state_of n).state ≡ n
+pub numbers_forth : (n : List ℕ) (t : State) → state_of n ≡ Ok t → numbers_of t ≡ n
 numbers_forth = flat.forth
 
 -- numbers are refused, with 13 at 0 and nothing else, exactly if there are not 14 or the kind is over 2
-pub not_a_state : (n : List ℕ) → ((state_of n).verdict ≡ Refused StateRow 0) ↔ ((length n ≢ 14) ⊎ (2 < get_or n 0 0))
+pub not_a_state : (n : List ℕ) → (state_of n ≡ refused_by StateRow 0) ↔ ((length n ≢ 14) ⊎ (2 < get_or n 0 0))
 not_a_state = flat.not_a_state
 
-pub thirteen : answer_of not_taken.verdict ≡ reading_refused 13 0
+pub thirteen : answer_of not_taken ≡ reading_refused 13 0
 thirteen = flat.thirteen
 
-pub refused_alone : (n : List ℕ) → (state_of n).verdict ≢ Accepted → state_of n ≡ not_taken
+pub refused_alone : (n : List ℕ) → ((t : State) → state_of n ≢ Ok t) → state_of n ≡ not_taken
 refused_alone = flat.refused_alone

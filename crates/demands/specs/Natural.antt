@@ -11,9 +11,8 @@ use Rattle.values.specs.Values.{RecordFits}
 use Rattle.treetracker.specs.Steps.{live}
 use Rattle.treetracker.specs.Fits.{Fits}
 use Rattle.runs.specs.declared.Stop.{Stop}
-use Rattle.runs.specs.declared.RunVerdict.TheVariants.{Stopped}
 use Rattle.runs.specs.Run.{cleared, is_ended, marked_in, run_answer}
-use Rattle.runs.specs.Procedure.{core, iterate}
+use Rattle.runs.specs.Procedure.{core, iterate, verdict_of, Stopped}
 use Rattle.theory.specs.Choices.{Row, Among}
 use Rattle.theory.specs.Order.{Ascending}
 use Rattle.join.specs.Natural.{natural_join}
@@ -131,7 +130,7 @@ module _ (s m : List ℕ) (b : Began s m) (cs : List Call) where
   state_fits = (CallLaws.stands s m b cs).fits
 
   pub never_refused : (c : Call)
-      → (why : Stop) × ((run_answer s after.state after.marks c.budget c.area).answer.verdict ≡ Stopped why)
+      → (why : Stop) × (verdict_of (run_answer s after.state after.marks c.budget c.area) ≡ Stopped why)
   never_refused = CallLaws.never_refused s m b after (CallLaws.stands s m b cs)
 
   -- Progress: a call that has budget and room takes a step, unless the run has ended or is at its step limit

@@ -3,8 +3,8 @@
 -- Parents.antt (2c).
 -- `figure s` is Figure 2b with the parents of Figure 2c, for the tables of the file s in its plan's order.
 -- docs/PAPER.md says where else the paper stands here.
+use Rattle.std.specs.Prelude.{None}
 use Rattle.std.specs.Prelude.{ℕ, ◌≤◌, ◌<◌, ◌≡◌, ◌↔◌, List, reverse, true, length}
-use Rattle.std.proofs.Math.Option.{none}
 use Rattle.layout.specs.File.{tables}
 use Rattle.plan.specs.Paper.{Permutation, ReductionOrder}
 use Rattle.plan.specs.Reduction.{query_of, InPlanOrder}
@@ -53,9 +53,9 @@ module _ (s m : List ℕ) (b : Began s m) (cs : List Call) where
 -- ---- Lemma 3.4: where a plan is the reverse of a GYO reduction order, only the root has no parent
 module _ (atoms plan schemas : List ℕ) (each : Permutation (length atoms) plan)
     (order : InPlanOrder atoms plan schemas) (reduces : ReductionOrder (query_of atoms) (reverse plan)) where
-  pub lemma_3·4 : (i : ℕ) → i < length plan → (parent schemas i ≡ none) ↔ (i ≡ 0)
+  pub lemma_3·4 : (i : ℕ) → i < length plan → (parent schemas i ≡ None) ↔ (i ≡ 0)
   lemma_3·4 = Parents.reversed_order atoms plan schemas each order reduces
 
 -- so it is in an accepted job
-pub lemma_3·4_job : (s : List ℕ) → JobAccepted s → (i : ℕ) → i < tables s → (parent (masks_of s) i ≡ none) ↔ (i ≡ 0)
+pub lemma_3·4_job : (s : List ℕ) → JobAccepted s → (i : ℕ) → i < tables s → (parent (masks_of s) i ≡ None) ↔ (i ≡ 0)
 lemma_3·4_job = Parents.accepted_root

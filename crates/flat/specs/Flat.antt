@@ -1,13 +1,12 @@
 -- A state as 14 numbers, and back (document 01, "The steps of a run": "The state goes in by value and the next state is
 -- handed back").
-use Rattle.std.specs.Prelude.{ℕ, List, [], ◌∷◌, Bool, cond, ◌&&◌, length, get_or, eqb, leb}
+use Rattle.std.specs.Prelude.{ℕ, List, [], ◌∷◌, Bool, cond, ◌&&◌, length, get_or, eqb, leb, Option, Some, None, Result, Ok}
 use Rattle.layout.specs.declared.Refusal.TheVariants.{State as StateRow}
-use Rattle.layout.specs.declared.Verdict.TheVariants.{Accepted, Refused}
+use Rattle.layout.specs.declared.Refused.{Refused}
+use Rattle.layout.specs.Contents.{refused}
 use Rattle.treetracker.specs.declared.Next.{Next}
 use Rattle.treetracker.specs.declared.Next.TheVariants.{Ended, Advance, Lookup}
 use Rattle.treetracker.specs.declared.State.{State}
-use Rattle.treetracker.specs.Steps.{no_state}
-use Rattle.flat.specs.declared.Taken.{Taken}
 
 -- ---- from a state to its numbers
 -- the kind of the next step
@@ -29,6 +28,10 @@ numbers_of t =
 unfoldable pub next_of : ℕ → Next
 next_of kind = cond (eqb kind 0) Ended (cond (eqb kind 1) Advance Lookup)
 
+-- the same of any number; one over 2 has none
+abbrev pub next_if : ℕ → Option Next
+next_if kind = cond (leb kind 2) (Some (next_of kind)) None
+
 -- the numbers, each in its place
 abbrev pub state_in : List ℕ → State
 state_in n = record {
@@ -43,17 +46,21 @@ state_in n = record {
 }
 
 -- the state, accepted
-abbrev pub taken : State → Taken
-taken t = record { verdict = Accepted; state = t }
+abbrev pub taken : State → Result State Refused
+taken t = Ok t
 
--- row 13, and every number of the state 0: "A refusal gives number and place only"
-abbrev pub not_taken : Taken
-not_taken = record { verdict = Refused StateRow 0; state = no_state }
+-- row 13: "A refusal gives number and place only"
+abbrev pub not_taken : Result State Refused
+not_taken = refused StateRow 0
 
 -- whether numbers are those of a state: there are 14, and the kind is at most 2
 unfoldable pub is_state : List ℕ → Bool
 is_state n = eqb (length n) 14 && leb (get_or n 0 0) 2
 
+-- the state that has these numbers, if one has
+abbrev pub state_if : List ℕ → Option State
+state_if n = cond (is_state n) (Some (state_in n)) None
+
 -- the state that has these numbers; where none has, the refusal
-unfoldable pub state_of : List ℕ → Taken
+unfoldable pub state_of : List ℕ → Result State Refused
 state_of n = cond (is_state n) (taken (state_in n)) not_taken

@@ -6,22 +6,11 @@
 // specs/Flat.antt has both ways.
 #![tactic(auto)]
 
-ghost use Rattle.std.specs.Prelude.{◌≡◌, length};
-ghost use Rattle.flat.specs.Flat.{kind_of, next_of, numbers_of, state_in, not_taken, state_of};
+ghost use Rattle.std.specs.Prelude.{◌≡◌};
+ghost use Rattle.flat.specs.Flat.{kind_of, next_if, numbers_of, state_if, state_of};
 
-use layout::{Refusal, Verdict};
+use layout::{Refusal, Refused};
 use treetracker::{Next, State};
-
-const NUMBERS: usize = 14;
-
-const HIGHEST_KIND: u32 = 2;
-
-// What taking a state gives. In a refusal every number of the state is 0.
-#[derive(Clone, Copy)]
-pub struct Taken {
-    pub verdict: Verdict,
-    pub state: State,
-}
 
 // The kind of the next step.
 fn kind_of(next: Next) -> u32
@@ -34,81 +23,69 @@ fn kind_of(next: Next) -> u32
     }
 }
 
-// The next step of a kind; one over 2 is refused before it comes here.
-fn next_of(kind: u32) -> Next
-    ensures { result ≡ next_of kind }
+// The next step of a kind; none of one over 2.
+#[tactic(auto, unfolding(crate::specs::Flat::next_of))]
+fn next_of(kind: u32) -> Option<Next>
+    ensures { result ≡ next_if kind }
 {
-    if kind == 0 {
-        return Next::Ended;
+    match kind {
+        0 => Some(Next::Ended),
+        1 => Some(Next::Advance),
+        2 => Some(Next::Lookup),
+        _ => None,
     }
-    if kind == 1 {
-        return Next::Advance;
-    }
-    Next::Lookup
 }
 
-// The 14 numbers of a state.
+// The 14 numbers of a state. One literal, in the flat form's order, which is plainer than copying the
+// chosen rows into an array of zeros.
 pub fn numbers_of(t: State) -> [u32; 14]
     ensures { result ≡ numbers_of t }
 {
-    let next = t.next;
-    let chosen = t.chosen;
     [
-        kind_of(next),
+        kind_of(t.next),
         t.at,
         t.start,
-        chosen[0],
-        chosen[1],
-        chosen[2],
-        chosen[3],
-        chosen[4],
-        chosen[5],
-        chosen[6],
-        chosen[7],
+        t.chosen[0],
+        t.chosen[1],
+        t.chosen[2],
+        t.chosen[3],
+        t.chosen[4],
+        t.chosen[5],
+        t.chosen[6],
+        t.chosen[7],
         t.steps,
         t.lookups,
         t.records,
     ]
 }
 
-// The refusal of numbers that no state has.
-fn refused() -> Taken
-    ensures { result ≡ not_taken }
+// The state that has these numbers; none where they are no state's.
+fn state_with(numbers: &[u32]) -> Option<State>
+    ensures { result ≡ state_if numbers.now }
 {
-    Taken {
-        verdict: Verdict::Refused(Refusal::State, 0),
-        state: treetracker::no_state(),
-    }
-}
-
-// The state that has these 14 numbers.
-fn state_in(n: &[u32]) -> State
-    requires { length n.now ≡ 14 }
-    ensures { result ≡ state_in n.now }
-{
-    State {
-        next: next_of(n[0]),
-        at: n[1],
-        start: n[2],
-        chosen: [n[3], n[4], n[5], n[6], n[7], n[8], n[9], n[10]],
-        steps: n[11],
-        lookups: n[12],
-        records: n[13],
-    }
+    let [kind, at, start, chosen @ .., steps, lookups, records] = numbers else {
+        return None;
+    };
+    let next = next_of(*kind)?;
+    let chosen = <[u32; 8]>::try_from(chosen).ok()?;
+    Some(State {
+        next,
+        at: *at,
+        start: *start,
+        chosen,
+        steps: *steps,
+        lookups: *lookups,
+        records: *records,
+    })
 }
 
 // The state that has these numbers, or refusal 13.
-pub fn state_of(numbers: &[u32]) -> Taken
+#[tactic(auto, using(crate::specs::FlatLaws::or_refused))]
+pub fn state_of(numbers: &[u32]) -> Result<State, Refused>
     ensures { result ≡ state_of numbers.now }
 {
-    if numbers.len() != NUMBERS {
-        return refused();
-    }
-    if HIGHEST_KIND < numbers[0] {
-        return refused();
-    }
-    Taken {
-        verdict: Verdict::Accepted,
-        state: state_in(numbers),
-    }
+    state_with(numbers).ok_or(Refused {
+        refusal: Refusal::State,
+        place: 0,
+    })
 }

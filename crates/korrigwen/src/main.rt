@@ -3,249 +3,171 @@
 // writing is done by proved functions of the other crates; output goes out in large blocks.
 #![tactic(auto)]
 
-ghost use Rattle.std.specs.Prelude.{◌+◌, ◌≤◌, length};
-ghost use Rattle.text.specs.Text.{Texts};
+ghost use Rattle.std.specs.Prelude.{◌≡◌, ◌+◌, ◌≤◌};
 ghost use Rattle.lines.specs.Lines.{JobOf};
 
-use layout::{Refusal, Verdict};
+use layout::Refused;
+use lines::Accepted;
 use rows::Positions;
-use runs::{RunVerdict, Stop};
+use runs::{Ran, Stop};
+use text::Table;
 use treetracker::State;
-
-// The numbers that the system gives standard input and output.
-const STDIN_FILENO: i32 = 0;
-
-const STDOUT_FILENO: i32 = 1;
 
 // One byte more than a job may have, so that a longer input shows.
 const MOST_INPUT: usize = 65536;
 
 const MOST_LINE: usize = 385;
 
+const MOST_OUTPUT: usize = 65536;
+
 // Each run call takes a step at least, so no run needs more.
 const MOST_CALLS: u32 = 16777217;
 
-// What a run call left: the state, how much of the output is filled, and what to do next.
-#[derive(Clone, Copy)]
-struct Turn {
-    state: State,
-    filled: usize,
-    goes_on: bool,
-    at_limit: bool,
-}
-
-// The same number in 32 bits, or the greatest that there is.
+// A number in 32 bits, or the greatest that there is.
 fn narrow(n: usize) -> u32 {
-    if n < 4294967296 { n as u32 } else { 4294967295 }
+    u32::try_from(n).unwrap_or(u32::MAX)
 }
 
-// The smaller of two numbers.
-fn least(m: usize, n: usize) -> usize
-    ensures { (result ≤ m) × (result ≤ n) }
-{
-    if m < n { m } else { n }
-}
-
-fn print_refused(r: Refusal, place: usize) {
-    let mut out = [0u8; 100];
-    let n = text::put_refused(layout::number_of(r), narrow(place), &mut out, 0);
-    io::write_all(STDOUT_FILENO, &out[..n]);
-}
-
-// How much of the output is filled once a line has room: where it might not, what is filled is written
-// out first.
-fn room_for_line(out: &[u8], filled: usize) -> usize
-    requires { (385 ≤ length out.now) × (filled ≤ length out.now) }
-    ensures { result + 385 ≤ length out.now }
-{
-    if MOST_LINE <= out.len() - filled {
-        return filled;
-    }
-    io::write_all(STDOUT_FILENO, &out[..filled]);
-    0
-}
-
-fn print_record(
-    file: &[u8],
-    g: Positions,
-    cells: &[u8],
-    sizes: &[u8],
-    record: &[u32],
-    out: &mut [u8],
+// What is still to be written out: the first bytes of a block. It is no `Drop`, so that it cannot be let go
+// but by `finish`, which writes it out.
+struct Output {
+    block: [u8; MOST_OUTPUT],
     filled: usize,
-) -> usize
-    requires job_of { JobOf file.now g × Texts file.now cells.now sizes.now }
-    requires in_bounds { (385 ≤ length out.old) × (filled ≤ length out.old) }
-    ensures { result ≤ length out.old }
-{
-    let at = room_for_line(out, filled);
-    lines::put_record(file, g, cells, sizes, record, out, at)
+    ghost within: { filled ≤ 65536 },
 }
 
-// The records in the first `end` places of the area, k numbers each.
-fn print_records(
-    file: &[u8],
-    g: Positions,
-    cells: &[u8],
-    sizes: &[u8],
-    area: &[u32],
-    end: usize,
-    out: &mut [u8],
-    filled: usize,
-) -> usize
-    requires job_of { JobOf file.now g × Texts file.now cells.now sizes.now }
-    requires in_bounds { (385 ≤ length out.old) × (filled ≤ length out.old) × (end ≤ length area.now) }
-    ensures { result ≤ length out.old }
-{
-    let k = g.k;
-    let mut from = 0;
-    let mut at = filled;
-    while k <= end - from {
-        at = print_record(file, g, cells, sizes, &area[from..from + k], out, at);
-        from += k;
+impl Output {
+    fn new() -> Output {
+        Output {
+            block: [0; MOST_OUTPUT],
+            filled: 0,
+        }
     }
-    at
-}
 
-// Whether a run that stopped for this reason goes on in a further call.
-fn goes_on(why: Stop) -> bool {
-    match why {
-        Stop::Ended => false,
-        Stop::StepLimit => false,
-        Stop::BudgetSpent => true,
-        Stop::NoRoom => true,
+    // Writes out what is filled.
+    fn flush(&mut self)
+        ensures { self.new.filled ≡ 0 }
+    {
+        frames::print(&self.block[..self.filled]);
+        self.filled = 0;
+    }
+
+    // Writes out what is filled, as the last of the output.
+    fn finish(self) {
+        let Output { block, filled } = self;
+        frames::print(&block[..filled]);
+    }
+
+    // Makes room for a line: where there might be none, what is filled is written out first.
+    fn make_room(&mut self)
+        ensures { self.new.filled + 385 ≤ 65536 }
+    {
+        if MOST_OUTPUT - self.filled < MOST_LINE {
+            self.flush();
+        }
+    }
+
+    // The line of a record.
+    fn put_record(&mut self, job: &Accepted, chosen: &[u32]) {
+        self.make_room();
+        self.filled = job.put_record(chosen, &mut self.block, self.filled);
+    }
+
+    // The last line of a run.
+    fn put_summary(&mut self, last: Ran, marked: usize) {
+        self.make_room();
+        let Ran { why, state } = last;
+        self.filled = text::put_summary(
+            matches!(why, Stop::StepLimit),
+            state.lookups,
+            state.records,
+            narrow(marked),
+            state.steps,
+            &mut self.block,
+            self.filled,
+        );
+    }
+
+    // The line of a refusal.
+    fn put_refused(&mut self, refused: Refused) {
+        self.make_room();
+        let Refused { refusal, place } = refused;
+        self.filled = text::put_refused(
+            u32::from(refusal),
+            narrow(place),
+            &mut self.block,
+            self.filled,
+        );
     }
 }
 
-fn is_limit(why: Stop) -> bool {
-    match why {
-        Stop::Ended => false,
-        Stop::StepLimit => true,
-        Stop::BudgetSpent => false,
-        Stop::NoRoom => false,
-    }
-}
-
-// The places that a call filled, by the records that it counted.
-fn places_filled(before: State, after: State, k: usize, most: usize) -> usize
-    requires { k ≤ 8 }
-    ensures { result ≤ most }
-{
-    if after.records < before.records {
-        return 0;
-    }
-    least(k * ((after.records - before.records) as usize), most)
-}
-
-// One run call, and its records printed.
+// One run call, and the lines of the records that it completed, which stand at the front of the area.
 fn take_turn(
-    file: &[u8],
-    g: Positions,
-    cells: &[u8],
-    sizes: &[u8],
+    job: &Accepted,
     marks: &mut [u8],
     state: State,
     area: &mut [u32],
-    out: &mut [u8],
-    filled: usize,
-) -> Turn
-    requires job_of { JobOf file.now g × Texts file.now cells.now sizes.now }
-    requires in_bounds { (385 ≤ length out.old) × (filled ≤ length out.old) }
-    ensures { result.filled ≤ length out.old }
-{
-    let ran = runs::run(file, state, marks, u32::MAX, area);
-    let next = ran.state;
-    let verdict = ran.verdict;
-    let end = places_filled(state, next, g.k, area.len());
-    let at = print_records(file, g, cells, sizes, area, end, out, filled);
-    match verdict {
-        RunVerdict::Stopped(why) => Turn {
-            state: next,
-            filled: at,
-            goes_on: goes_on(why),
-            at_limit: is_limit(why),
-        },
-        RunVerdict::Refused(_, _) => Turn {
-            state: next,
-            filled: at,
-            goes_on: false,
-            at_limit: false,
-        },
+    output: &mut Output,
+) -> Result<Ran, Refused> {
+    let ran = runs::run(job.table.file, state, marks, u32::MAX, area)?;
+    let completed = ran.state.records.saturating_sub(state.records);
+    for chosen in area.chunks_exact(job.width()).take(completed as usize) {
+        output.put_record(job, chosen);
     }
+    Ok(ran)
 }
 
-// The last line.
-fn print_summary(t: State, stopped: bool, marked: usize, out: &mut [u8], filled: usize)
-    requires { (385 ≤ length out.old) × (filled ≤ length out.old) }
-{
-    let at = room_for_line(out, filled);
-    let n = text::put_summary(
-        stopped,
-        t.lookups,
-        t.records,
-        narrow(marked),
-        t.steps,
-        out,
-        at,
-    );
-    io::write_all(STDOUT_FILENO, &out[..n]);
-}
-
-// Run calls until the run has ended or is at the step limit.
-fn run_all(file: &[u8], g: Positions, cells: &[u8], sizes: &[u8], marks: &mut [u8], fresh: State)
-    requires { JobOf file.now g × Texts file.now cells.now sizes.now }
-{
+// Run calls until the run has ended or is at the step limit, and the last line. The first call goes on from
+// the fresh state as from that of a call whose budget is spent.
+fn run_all(
+    job: &Accepted,
+    marks: &mut [u8],
+    fresh: State,
+    output: &mut Output,
+) -> Result<(), Refused> {
     let mut area = [0u32; 8192];
-    let mut out = [0u8; 65536];
-    let mut t = Turn {
+    let mut last = Ran {
+        why: Stop::BudgetSpent,
         state: fresh,
-        filled: 0,
-        goes_on: true,
-        at_limit: false,
     };
-    let mut calls = MOST_CALLS;
-    while calls > 0 && t.goes_on {
-        let state = t.state;
-        t = take_turn(
-            file, g, cells, sizes, marks, state, &mut area, &mut out, t.filled,
-        );
-        calls -= 1;
+    for _ in 0..MOST_CALLS {
+        last = take_turn(job, marks, last.state, &mut area, output)?;
+        if matches!(last.why, Stop::Ended | Stop::StepLimit) {
+            break;
+        }
     }
-    let state = t.state;
-    print_summary(
-        state,
-        t.at_limit,
-        runs::marked(marks, g.total),
-        &mut out,
-        t.filled,
-    );
+    output.put_summary(last, runs::marked(marks, job.g.total));
+    Ok(())
 }
 
-fn run_job(file: &[u8], g: Positions)
+// Begins an accepted job and runs it.
+fn run_job(file: &[u8], g: Positions, output: &mut Output) -> Result<(), Refused>
     requires { JobOf file.now g }
 {
     let mut cells = [0u8; 196608];
     let mut sizes = [0u8; 16384];
     text::put_texts(file, &mut cells, &mut sizes);
     let mut marks = [0u8; 16384];
-    let begun = runs::begin(file, &mut marks);
-    let fresh = begun.state;
-    run_all(file, g, &cells, &sizes, &mut marks, fresh);
+    let fresh = runs::begin(file, &mut marks)?;
+    let table = Table {
+        file,
+        cells: &cells,
+        sizes: &sizes,
+    };
+    let job = Accepted { table, g };
+    run_all(&job, &mut marks, fresh, output)
 }
 
-fn answer(file: &[u8]) {
-    let reading = job::read(file);
-    let verdict = reading.verdict;
-    if let Verdict::Refused(r, place) = verdict {
-        print_refused(r, place);
-        return;
-    }
-    let job = reading.job;
-    run_job(file, rows::positions_of(job));
+fn answer(file: &[u8], output: &mut Output) -> Result<(), Refused> {
+    let job = job::read(file)?;
+    run_job(file, rows::positions_of(job), output)
 }
 
 fn main() {
     let mut input = [0u8; MOST_INPUT];
-    let n = io::read_full(STDIN_FILENO, &mut input);
-    answer(&input[..n]);
+    let mut output = Output::new();
+    if let Err(refused) = answer(frames::take(&mut input, MOST_INPUT), &mut output) {
+        output.put_refused(refused);
+    }
+    output.finish();
 }

@@ -6,17 +6,13 @@
 #![tactic(auto)]
 
 ghost use Rattle.std.specs.Prelude.{◌≡◌};
-ghost use Rattle.runs.specs.Run.{stop_number};
 ghost use Rattle.job.specs.Read.{read_answer};
-ghost use Rattle.korrigwen_c.specs.Numbers.{verdict_number, verdict_place, ran_number, ran_place, ran_reason};
-ghost use Rattle.korrigwen_c.specs.Numbers.{joined_number, joined_place, joined_columns, state_numbers, misfit};
-ghost use Rattle.korrigwen_c.specs.Numbers.{given_state, read_numbers, begun_with, begin_numbers, ran_with};
-ghost use Rattle.korrigwen_c.specs.Numbers.{run_numbers, joined_with, values_numbers};
+ghost use Rattle.korrigwen_c.specs.Numbers.{state_numbers, given_state, read_numbers, begun_with, begin_numbers};
+ghost use Rattle.korrigwen_c.specs.Numbers.{ran_with, run_numbers, joined_with, values_numbers};
 
-use layout::{Entry, Verdict};
-use runs::{RunVerdict, Stop};
+use job::Job;
+use layout::{Entry, NO_ENTRY};
 use treetracker::{Next, State};
-use values::Joined;
 
 // What reading gives: 0 and the job, or the number and the place of the refusal.
 #[repr(C)]
@@ -65,117 +61,36 @@ pub struct JoinedNumbers {
     pub columns: usize,
 }
 
-fn verdict_number(v: Verdict) -> u32
-    ensures { result ≡ verdict_number v }
-{
-    match v {
-        Verdict::Accepted => 0,
-        Verdict::Refused(r, _) => layout::number_of(r),
-    }
-}
+// What stands beside a refusal of reading.
+const NO_JOB: ReadNumbers = ReadNumbers {
+    number: 0,
+    place: 0,
+    k: 0,
+    plan: [0; 8],
+    entries: [NO_ENTRY; 8],
+    parents: [0; 8],
+};
 
-fn verdict_place(v: Verdict) -> usize
-    ensures { result ≡ verdict_place v }
-{
-    match v {
-        Verdict::Accepted => 0,
-        Verdict::Refused(_, place) => place,
-    }
-}
-
-fn ran_number(v: RunVerdict) -> u32
-    ensures { result ≡ ran_number v }
-{
-    match v {
-        RunVerdict::Stopped(_) => 0,
-        RunVerdict::Refused(r, _) => layout::number_of(r),
-    }
-}
-
-fn ran_place(v: RunVerdict) -> usize
-    ensures { result ≡ ran_place v }
-{
-    match v {
-        RunVerdict::Stopped(_) => 0,
-        RunVerdict::Refused(_, place) => place,
-    }
-}
-
-// The number of a reason for stopping, in the order in which they are tested.
-fn stop_number(why: Stop) -> u32
-    ensures { result ≡ stop_number why }
-{
-    match why {
-        Stop::Ended => 0,
-        Stop::StepLimit => 1,
-        Stop::BudgetSpent => 2,
-        Stop::NoRoom => 3,
-    }
-}
-
-fn ran_reason(v: RunVerdict) -> u32
-    ensures { result ≡ ran_reason v }
-{
-    match v {
-        RunVerdict::Stopped(why) => stop_number(why),
-        RunVerdict::Refused(_, _) => 0,
-    }
-}
-
-fn joined_number(a: Joined) -> u32
-    ensures { result ≡ joined_number a }
-{
-    match a {
-        Joined::Columns(_) => 0,
-        Joined::Refused(r, _) => layout::number_of(r),
-    }
-}
-
-fn joined_place(a: Joined) -> usize
-    ensures { result ≡ joined_place a }
-{
-    match a {
-        Joined::Columns(_) => 0,
-        Joined::Refused(_, place) => place,
-    }
-}
-
-fn joined_columns(a: Joined) -> usize
-    ensures { result ≡ joined_columns a }
-{
-    match a {
-        Joined::Columns(n) => n,
-        Joined::Refused(_, _) => 0,
-    }
-}
+// The numbers of a state that stand beside a refusal.
+const NO_STATE: StateNumbers = StateNumbers { numbers: [0; 14] };
 
 // A state that fits no job: where the run has ended, there is no position.
-fn misfit_state() -> State
-    ensures { result ≡ misfit }
-{
-    State {
-        next: Next::Ended,
-        at: 1,
-        start: 0,
-        chosen: [0; 8],
-        steps: 0,
-        lookups: 0,
-        records: 0,
-    }
-}
+const MISFIT: State = State {
+    next: Next::Ended,
+    at: 1,
+    start: 0,
+    chosen: [0; 8],
+    steps: 0,
+    lookups: 0,
+    records: 0,
+};
 
 // The state that has these numbers, or one that fits no job.
 fn given_state(n: StateNumbers) -> State
     ensures { result ≡ given_state n }
 {
     let numbers = n.numbers;
-    let taken = flat::state_of(&numbers);
-    let verdict = taken.verdict;
-    let state = taken.state;
-    match verdict {
-        Verdict::Accepted => state,
-        Verdict::Refused(_, _) => misfit_state(),
-    }
+    flat::state_of(&numbers).unwrap_or(MISFIT)
 }
 
 fn state_numbers(t: State) -> StateNumbers
@@ -191,19 +106,28 @@ fn state_numbers(t: State) -> StateNumbers
 pub extern "C" fn korrigwen_read(file: &[u8]) -> ReadNumbers
     ensures { result ≡ read_numbers (read_answer file.now) }
 {
-    let reading = job::read(file);
-    let verdict = reading.verdict;
-    let job = reading.job;
-    let plan = job.plan;
-    let entries = job.entries;
-    let parents = job.parents;
-    ReadNumbers {
-        number: verdict_number(verdict),
-        place: verdict_place(verdict),
-        k: job.k,
-        plan,
-        entries,
-        parents,
+    match job::read(file) {
+        Ok(job) => {
+            let Job {
+                k,
+                plan,
+                entries,
+                parents,
+            } = job;
+            ReadNumbers {
+                number: 0,
+                place: 0,
+                k,
+                plan,
+                entries,
+                parents,
+            }
+        }
+        Err(refused) => ReadNumbers {
+            number: u32::from(refused.refusal),
+            place: refused.place,
+            ..NO_JOB
+        },
     }
 }
 
@@ -212,13 +136,17 @@ pub extern "C" fn korrigwen_read(file: &[u8]) -> ReadNumbers
 pub extern "C" fn korrigwen_begin(file: &[u8], marks: &mut [u8]) -> BegunNumbers
     ensures { begun_with result marks.new ≡ begin_numbers file.now marks.old }
 {
-    let begun = runs::begin(file, marks);
-    let verdict = begun.verdict;
-    let state = begun.state;
-    BegunNumbers {
-        number: verdict_number(verdict),
-        place: verdict_place(verdict),
-        state: state_numbers(state),
+    match runs::begin(file, marks) {
+        Ok(fresh) => BegunNumbers {
+            number: 0,
+            place: 0,
+            state: state_numbers(fresh),
+        },
+        Err(refused) => BegunNumbers {
+            number: u32::from(refused.refusal),
+            place: refused.place,
+            state: NO_STATE,
+        },
     }
 }
 
@@ -234,14 +162,19 @@ pub extern "C" fn korrigwen_run(
     ensures { ran_with result marks.new area.new
         ≡ run_numbers file.now state marks.old budget area.old }
 {
-    let ran = runs::run(file, given_state(state), marks, budget, area);
-    let verdict = ran.verdict;
-    let next = ran.state;
-    RanNumbers {
-        number: ran_number(verdict),
-        place: ran_place(verdict),
-        reason: ran_reason(verdict),
-        state: state_numbers(next),
+    match runs::run(file, given_state(state), marks, budget, area) {
+        Ok(ran) => RanNumbers {
+            number: 0,
+            place: 0,
+            reason: u32::from(ran.why),
+            state: state_numbers(ran.state),
+        },
+        Err(refused) => RanNumbers {
+            number: u32::from(refused.refusal),
+            place: refused.place,
+            reason: 0,
+            state: NO_STATE,
+        },
     }
 }
 
@@ -255,10 +188,16 @@ pub extern "C" fn korrigwen_join_values(
     ensures { joined_with result values.new
         ≡ values_numbers file.now chosen.now values.old }
 {
-    let joined = values::join_values(file, chosen, values);
-    JoinedNumbers {
-        number: joined_number(joined),
-        place: joined_place(joined),
-        columns: joined_columns(joined),
+    match values::join_values(file, chosen, values) {
+        Ok(columns) => JoinedNumbers {
+            number: 0,
+            place: 0,
+            columns,
+        },
+        Err(refused) => JoinedNumbers {
+            number: u32::from(refused.refusal),
+            place: refused.place,
+            columns: 0,
+        },
     }
 }

@@ -5,13 +5,13 @@
 #![tactic(auto)]
 
 ghost use Rattle.std.specs.Prelude.{◌≡◌, ◌+◌, ◌≤◌, ◌<◌, length, get_or, set};
-ghost use Rattle.numbers.specs.Numbers.{four_bytes, number_at, signed, value_at};
+ghost use Rattle.numbers.specs.Numbers.{number_at, signed, value_at};
 
 // The byte at a place: 0 past the end.
 pub fn byte_at(s: &[u8], at: usize) -> u8
     ensures { result ≡ get_or s.now at 0 }
 {
-    if at < s.len() { s[at] } else { 0 }
+    s.get(at).copied().unwrap_or(0)
 }
 
 // A byte is written at a place: nothing past the end.
@@ -23,36 +23,21 @@ pub fn put_byte(s: &mut [u8], at: usize, b: u8)
     }
 }
 
-fn wide(x: u8) -> u32
-    ensures { (result ≡ x) × (result < 256) }
-{
-    x as u32
-}
-
-// Four bytes that are there.
-fn four_bytes(s: &[u8], at: usize) -> u32
-    requires { at + 4 ≤ length s.now }
-    ensures { result ≡ four_bytes s.now at }
-{
-    wide(s[at]) + 256 * wide(s[at + 1]) + 65536 * wide(s[at + 2]) + 16777216 * wide(s[at + 3])
-}
-
 // The number at a place whose four bytes are there.
+#[tactic(auto, unfolding(crate::specs::Numbers::number_at))]
 pub fn number_there(s: &[u8], at: usize) -> u32
     requires { at + 4 ≤ length s.now }
     ensures { result ≡ number_at s.now at }
 {
-    four_bytes(s, at)
+    u32::from_le_bytes([s[at], s[at + 1], s[at + 2], s[at + 3]])
 }
 
 // The number at a place: 0 where its four bytes run past the end.
+#[tactic(auto, unfolding(crate::specs::Numbers::number_at))]
 pub fn number_at(s: &[u8], at: usize) -> u32
     ensures { result ≡ number_at s.now at }
 {
-    if s.len() < 4 {
-        return 0;
-    }
-    if at <= s.len() - 4 {
+    if s.len() >= 4 && at <= s.len() - 4 {
         number_there(s, at)
     } else {
         0
@@ -60,17 +45,15 @@ pub fn number_at(s: &[u8], at: usize) -> u32
 }
 
 // Two's complement: from 2,147,483,648 on, a number less 4,294,967,296.
+#[tactic(auto, unfolding(crate::specs::Numbers::signed))]
 pub fn as_signed(n: u32) -> i32
     ensures { result ≡ signed n }
 {
-    if n < 2147483648 {
-        n as i32
-    } else {
-        -1 - ((4294967295 - n) as i32)
-    }
+    n.cast_signed()
 }
 
 // The value at a place: 0 where its four bytes run past the end.
+#[tactic(auto, unfolding(crate::specs::Numbers::value_at))]
 pub fn value_at(s: &[u8], at: usize) -> i32
     ensures { result ≡ value_at s.now at }
 {

@@ -3,53 +3,39 @@
 // and lowest first, then the label, at most 200 bytes, then the file, at most 70,000.
 #![tactic(auto)]
 
-// The numbers that the system gives standard input and output.
-const STDIN_FILENO: i32 = 0;
-
-const STDOUT_FILENO: i32 = 1;
+use show::Reading;
 
 const MOST_LABEL: usize = 200;
 
 const MOST_FILE: usize = 70000;
 
-// Prints the label, whose bytes come next.
-fn print_label(length: usize) {
-    let mut label = [0u8; MOST_LABEL];
-    let n = frames::take(&mut label, length);
-    io::write_all(STDOUT_FILENO, &label[..n]);
+// The lengths of a frame's label and file.
+#[derive(Clone, Copy)]
+struct Lengths {
+    label: usize,
+    file: usize,
 }
 
-// Prints what reading the file answers, whose bytes come next.
-fn print_file(length: usize) {
-    let mut file = [0u8; MOST_FILE];
-    let n = frames::take(&mut file, length);
-    show::print_reading(job::read(&file[..n]));
-}
-
-// Answers one frame and says whether to go on: not where its header is not whole or a length is over
-// its limit.
-fn answer_frame() -> bool {
-    let mut header = [0u8; 8];
-    if io::read_full(STDIN_FILENO, &mut header) < 8 {
-        return false;
-    }
+// The lengths of the next frame, or none where its header is not whole or a length is over its limit.
+fn next_lengths() -> Option<Lengths> {
+    let header: [u8; 8] = frames::header()?;
     let label = numbers::number_at(&header, 0) as usize;
     let file = numbers::number_at(&header, 4) as usize;
     if MOST_LABEL < label || MOST_FILE < file {
-        return false;
+        return None;
     }
-    print_label(label);
-    io::write_all(STDOUT_FILENO, b": ");
-    print_file(file);
-    io::write_all(STDOUT_FILENO, b"\n");
-    true
+    Some(Lengths { label, file })
 }
 
-// A proved loop has to end, and nothing says that the input does: the turns are counted down, from a
-// number that no run uses up.
+// Answers the frame whose label and file come next.
+fn answer(lengths: Lengths) {
+    let mut label = [0; MOST_LABEL];
+    let mut file = [0; MOST_FILE];
+    let label = frames::take(&mut label, lengths.label);
+    let file = frames::take(&mut file, lengths.file);
+    frames::print_line(label, Reading(job::read(file)));
+}
+
 fn main() {
-    let mut turns = u64::MAX;
-    while turns > 0 && answer_frame() {
-        turns -= 1;
-    }
+    frames::answer_each(next_lengths, answer);
 }

@@ -1,3 +1,4 @@
 pub mod Apart
 pub mod First
 pub mod FirstLaws
+pub mod FindLaws

@@ -1,1 +1,1 @@
-mod Sizes
+pub mod Laying

@@ -1,16 +1,18 @@
 -- Laws of numbers in decimal, in this order: the two cases of the digits; what `io::decimal` gives is these digits; how
--- many there are at most; the two cases of a signed value, and how long the text of a file's value is at most.
-use Rattle.std.specs.Prelude.{ℕ, zero, suc, ◌+◌, ◌*◌, ◌-◌, ◌/◌, ◌%◌, ◌^◌, ◌≤◌, ◌<◌, List, [], ◌∷◌, ◌++◌, ◌≡◌, refl, T, ℤ}
-use Rattle.std.specs.Prelude.{pos, negsuc, nat_abs, length, take}
-use Rattle.std.proofs.Common.{sym, ap, ◌∙◌, subst, not-suc-le-zero, pow-suc, div-lt_iff_lt-mul, le-div_iff_mul-le, arith}
-use Rattle.std.proofs.Common.{lit<, length-append, lt-ltb, le-ltb}
+-- many there are at most, also of what it gives; the two cases of a signed value, and how long the text of a file's value
+-- is at most.
+use Rattle.std.specs.Prelude.{ℕ, zero, suc, ◌+◌, ◌*◌, ◌-◌, ◌/◌, ◌%◌, ◌^◌, ◌≤◌, ◌<◌, List, [], ◌∷◌, ◌++◌, ◌≡◌, refl}
+use Rattle.std.specs.Prelude.{true, false, ℤ, pos, negsuc, nat_abs, length, take}
+use Rattle.std.proofs.Common.{sym, ap, ◌∙◌, not-suc-le-zero, pow-suc, div-lt_iff_lt-mul, le-div_iff_mul-le, arith}
+use Rattle.std.proofs.Common.{lit<, length-append, length-take, lt-ltb, le-ltb}
 use Rattle.std.proofs.Math.Decide.{dec_lt}
+use Rattle.std.proofs.lemmas.Bool.Decides.{nat_tests}
 use Rattle.std.proofs.Math.Nat.{pow-le-pow_right}
-use Rattle.std.specs.Int.Signed.{non_neg}
+use lib.Signed.{lt_z}
 use Rattle.io.specs.Digits.{last_digits, hex_digit_ascii, IsDigitCount}
-use Rattle.numbers.specs.NumberLaws.{signed_low, signed_high}
-use Rattle.numbers.specs.Numbers.{signed, number_at, value_at}
+use Rattle.numbers.specs.Numbers.{signed, value_at}
 use Rattle.text.specs.Text.{text_in, text_of, signed_text}
+use Rattle.text.specs.Words.{bytes_of}
 
 -- ---- a number below 10 is one digit; any other is the digits of its tenth and then its last
 text_small : (most n : ℕ) → n < 10 → text_in (suc most) n ≡ (48 + n) ∷ []
@@ -82,34 +84,22 @@ pub ten_digits : (n : ℕ) → n < 2 ^ 32 → length (text_of n) ≤ 10
 unfolding text_of
 ten_digits n h = text_length 20 9 n (omega arith)
 
--- ---- a sign and then the digits, or the digits alone
-pub signed_negative : (z : ℤ) (n : ℕ) → z ≡ negsuc n → signed_text z ≡ (45 ∷ []) ++ text_of (nat_abs z)
-unfolding signed_text
-signed_negative z n e = rw e
+pub decimal_length : (n k : ℕ) (xs : List ℕ) → n < 2 ^ 32 → IsDigitCount 10 1 n k → take k xs ≡ last_digits 10 k n
+    → length (take k xs) ≤ 10
+decimal_length n k xs h f e = omega (arith, few_digits n k h f, length-take k xs)
 
-pub signed_whole : (z : ℤ) → T (non_neg z) → signed_text z ≡ text_of (nat_abs z)
+-- ---- a sign and then the digits, or the digits alone
+pub signed_negative : (z : ℤ) → lt_z z (pos 0) ≡ true → signed_text z ≡ bytes_of "-" ++ text_of (nat_abs z)
+unfolding signed_text
+signed_negative (pos n) h = grind arith
+signed_negative (negsuc n) h = refl
+
+pub signed_whole : (z : ℤ) → lt_z z (pos 0) ≡ false → signed_text z ≡ text_of (nat_abs z)
 unfolding signed_text
 signed_whole (pos n) h = refl
-signed_whole (negsuc n) h = absurd h
+signed_whole (negsuc n) h = cc
 
 -- ---- the text of a file's value has at most 11 bytes, whatever the file holds
-whole_length : (n : ℕ) → n < 2 ^ 31 → length (signed_text (pos n)) ≤ 11
-unfolding signed_text
-whole_length n h = omega (arith, ten_digits n (omega arith))
-
-negative_length : (n : ℕ) → n < 2 ^ 31 → length (signed_text (negsuc n)) ≤ 11
-unfolding signed_text
-negative_length n h = omega (arith, ten_digits (suc n) (omega arith))
-
-signed_length : (n : ℕ) → length (signed_text (signed n)) ≤ 11
-signed_length n = pick (dec_lt n 2147483648)
-  where
-    pick : Dec (n < 2147483648) → length (signed_text (signed n)) ≤ 11
-    pick (yes p) = subst (λ (z : ℤ). length (signed_text z) ≤ 11) (signed_low n p) (whole_length n (omega arith))
-    pick (no p) =
-        subst (λ (z : ℤ). length (signed_text z) ≤ 11) (signed_high n (omega arith))
-        (negative_length (4294967295 - n) (omega arith))
-
 pub value_length : (s : List ℕ) (at : ℕ) → length (signed_text (value_at s at)) ≤ 11
-unfolding value_at
-value_length s at = signed_length (number_at s at)
+unfolding value_at signed signed_text
+value_length s at = grind (arith, nat_tests, ten_digits)

@@ -1,20 +1,11 @@
 -- `job::plan_masks` takes the eight masks in their order.
+use Rattle.std.proofs.Common.{rules, ◌∙◌, ap, ℕ, map}
+use Rattle.areas.specs.Mapped.{maps_all, eight_items}
+use Rattle.layout.specs.File.{entry_at}
 use Rattle.job.proofs.plan_masks.Goals as goal
 
 pub returns : goal.returns
 returns c =
-    let table_mask6 = c.table_mask-6 in
-    let table_mask5 = c.table_mask-5 in
-    let table_mask3 = c.table_mask-3 in
-    let table_mask2 = c.table_mask-2 in
-    let table_mask_call = c.table_mask in
-    rw (
-      table_mask_call.ensures,
-      table_mask2.ensures,
-      table_mask3.ensures,
-      c.table_mask-4.ensures,
-      table_mask5.ensures,
-      table_mask6.ensures,
-      c.table_mask-7.ensures,
-      c.table_mask-8.ensures,
-    )
+    let mask : ℕ → ℕ = λ table. (entry_at c.args.s.now table).mask in
+    maps_all _ mask c.args.plan _ (λ x y q k. search rules) 8 (search rules) c.map.ensures.items
+    ∙ ap (map mask) (eight_items c.args.plan (search rules))

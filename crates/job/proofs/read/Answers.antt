@@ -1,51 +1,50 @@
 -- `job::read` goes on after the contents and after the parents, as its definition does.
-use Rattle.std.proofs.Common.{arith, sym, ◌∙◌, ap, ◌≡◌, ℕ, List}
-use Rattle.job.specs.ReadLaws.{read_refused, read_lacking, read_accepted}
-use Rattle.job.specs.Outcome.{masks_given}
-use Rattle.job.specs.Read.{read_answer, read_contents, plan_parents, accepted_with}
-use Rattle.layout.specs.declared.Verdict.TheVariants.{Accepted}
+use Rattle.std.proofs.Common.{sym, ◌∙◌, ap, ◌≡◌, ◌≤◌, List, ℕ, Ok, Err, Result}
+use Rattle.std.proofs.lemmas.Result.{err_from_is_err_and, IfOk-at_ok}
+use Rattle.layout.specs.declared.Contents.{Contents}
+use Rattle.layout.specs.declared.Refused.{Refused}
+use Rattle.layout.specs.Contents.{contents_of}
 use Rattle.layout.specs.ContentsLaws.{contents_few}
 use Rattle.plan.specs.Parents.{parents_of}
-use Rattle.plan.specs.declared.Parents.{Parents}
-use Rattle.layout.specs.declared.Contents.{Contents}
+use Rattle.job.specs.declared.Job.{Job}
+use Rattle.job.specs.Read.{read_answer, plan_parents}
+use Rattle.job.specs.ReadLaws.{read_refused, read_lacking, read_accepted}
+use Rattle.job.specs.Outcome.{masks_given}
 use Rattle.job.proofs.read.Goals as goal
-use Rattle.job.proofs.read.Goals.{After-parents_of-p}
+use Rattle.job.proofs.read.Goals.{After-parents_of}
 
-accepted : (c : After-parents_of-p) → c.read_contents-c.result.verdict ≡ Accepted
-accepted c = c.in_default.is
+-- the contents that were read, and what the search for their parents gave
+contents_are : (c : After-parents_of) → contents_of c.args.file.now ≡ Ok c.in_ok-k.field-0
+contents_are c = sym c.read_contents.ensures ∙ c.in_ok-k.was
 
-parents : (c : After-parents_of-p) → plan_parents c.read_contents-c.result ≡ c.parents_of-p.result
+parents_are : (c : After-parents_of) → plan_parents c.in_ok-k.field-0 ≡ c.parents_of.result
 unfolding plan_parents
-parents c =
-    let contents = c.read_contents-c in
-    let masks = c.plan_masks.ensures ∙ masks_given _ _ contents.ensures (accepted c) in
-    sym (c.parents_of-p.ensures ∙ ap (λ (m : List ℕ). parents_of m contents.result.k) masks)
+parents_are c =
+    let contents = c.in_ok-k.field-0 in
+    let masks = c.plan_masks.ensures ∙ masks_given _ _ (contents_are c) in
+    sym (c.parents_of.ensures ∙ ap (λ (m : List ℕ). parents_of m contents.k) masks)
 
-pub returns-in-Refused : goal.returns-in-Refused
+pub returns-in_err-k : goal.returns-in_err-k
 unfolding read_answer
-returns-in-Refused c =
-    let read_contents_call = c.read_contents-c in
-    c.refused_with.ensures ∙ read_refused _ _ _ c.in-Refused.is ∙ ap read_contents read_contents_call.ensures
+returns-in_err-k c =
+    let p = err_from_is_err_and _ c.from_residual.ensures.1 in
+    p.1 ∙ ap err p.2 ∙ read_refused _ _ (sym c.read_contents.ensures ∙ c.in_err-k.was)
+  where
+    err : Refused → Result Job Refused
+    err x = Err x
 
-pub parents_of-p-requires : goal.parents_of-p-requires
-parents_of-p-requires c =
-    let args = c.args in
-    omega (arith, contents_few args.file.now, ap (λ (x : Contents). x.k) c.read_contents-c.ensures)
+pub parents_of-requires : goal.parents_of-requires
+parents_of-requires c =
+    IfOk-at_ok (λ (x : Contents). x.k ≤ 8) (sym c.read_contents.ensures ∙ c.in_ok-k.was) (contents_few c.args.file.now)
 
-pub returns-in-At : goal.returns-in-At
+pub returns-in-Ok : goal.returns-in-Ok
 unfolding read_answer
-returns-in-At c =
-    let at = (goal.at.returns-in-At c).After-parents_of-p in
-    c.refused_with-in-At.ensures
-    ∙ read_lacking _ _ (accepted at) (ap (λ (p : Parents). p.lacking) (parents at) ∙ c.in-At.is)
-    ∙ ap read_contents c.read_contents-c.ensures
+returns-in-Ok c =
+    let at = (goal.at.returns-in-Ok c).After-parents_of in
+    read_accepted _ _ _ (contents_are at) (parents_are at ∙ c.in-Ok.is)
 
-pub returns : goal.returns
+pub returns-in-Err : goal.returns-in-Err
 unfolding read_answer
-returns c =
-    let at = (goal.at.returns c).After-parents_of-p in
-    let none = c.in_default-lacking.is in
-    let contents = c.read_contents-c in
-    ap (accepted_with contents.result) (sym (parents at))
-    ∙ read_accepted _ (accepted at) (ap (λ (p : Parents). p.lacking) (parents at) ∙ none)
-    ∙ ap read_contents contents.ensures
+returns-in-Err c =
+    let at = (goal.at.returns-in-Err c).After-parents_of in
+    read_lacking _ _ _ (contents_are at) (parents_are at ∙ c.in-Err.is)

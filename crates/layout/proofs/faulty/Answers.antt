@@ -1,7 +1,7 @@
 -- `layout::faulty` goes by the cases of its definition.
-use Rattle.std.proofs.Common.{◌∙◌, ap}
+use Rattle.std.proofs.Common.{arith, ◌∙◌, refl}
+use Rattle.search.specs.FindLaws.{any_from_zero}
 use Rattle.layout.specs.ContentsLaws.{faulty_after, faulty_high, faulty_repeats}
-use Rattle.search.specs.First.{is_found}
 use Rattle.layout.proofs.faulty.Goals as goal
 
 pub returns-then-k-p : goal.returns-then-k-p
@@ -12,6 +12,6 @@ returns-then-k-byte c = faulty_high _ _ _ c.if-k-p.false c.if-k-byte.true
 
 pub returns : goal.returns
 returns c =
-    let if2 = c.if-k-byte in
-    let if1 = c.if-k-p in
-    c.is_found.ensures ∙ ap is_found c.first_equal.ensures ∙ faulty_repeats _ _ _ if1.false if2.false
+    c.contains.ensures.value
+    ∙ any_from_zero _ c.args.plan c.args.p (omega arith) _ (λ q h. refl)
+    ∙ faulty_repeats _ _ _ c.if-k-p.false c.if-k-byte.false

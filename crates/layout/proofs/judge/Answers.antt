@@ -7,26 +7,24 @@ use Rattle.layout.proofs.judge.Goals as goal
 
 pub returns-then-misfit : goal.returns-then-misfit
 returns-then-misfit c =
-    let wide = c.wide in
-    let count = c.count-ones in
     judged_columns _ _ _
-    (ap (λ (n : ℕ). is_outside n 1 16) (sym (wide.ensures ∙ count.ensures)) ∙ sym c.outside-misfit.ensures ∙ c.if-misfit.true)
+    (ap (λ (n : ℕ). is_outside n 1 16) (sym c.count-ones.ensures) ∙ sym c.outside-misfit.ensures ∙ c.if-misfit.true)
 
-pub returns-then-fields-ones : goal.returns-then-fields-ones
-returns-then-fields-ones c =
+pub returns-then-e-ones : goal.returns-then-e-ones
+returns-then-e-ones c =
     let outside = c.outside-misfit in
     let fit = outside_false _ _ _ (sym outside.ensures ∙ search rules) in
     judged_fields _ _ _ (omega arith) (omega arith) (omega arith)
 
-pub returns-then-rows-gt-MOST_ROWS : goal.returns-then-rows-gt-MOST_ROWS
-returns-then-rows-gt-MOST_ROWS c =
+pub returns-then-e-gt-MOST_ROWS : goal.returns-then-e-gt-MOST_ROWS
+returns-then-e-gt-MOST_ROWS c =
     let if1 = c.if-misfit in
     let outside = c.outside-misfit in
     let fit = outside_false _ _ _ (sym outside.ensures ∙ if1.false) in
     judged_rows _ _ _ (omega arith) (omega arith) (omega arith) (omega arith)
 
-pub returns-then-wide-end : goal.returns-then-wide-end
-returns-then-wide-end c =
+pub returns-then-e-end : goal.returns-then-e-end
+returns-then-e-end c =
     let outside = c.outside-misfit in
     let fit = outside_false _ _ _ (sym outside.ensures ∙ c.if-misfit.false) in
     judged_offset _ _ _ (omega arith) (omega arith) (omega arith) (omega arith) (omega arith)

@@ -8,9 +8,5 @@ use Rattle.layout.proofs.read_entries.Given as goal
 abbrev pub invariant-loop-i : goal.invariant-loop-i
 invariant-loop-i l =
     (entries_from l.s l.k l.plan (l.k - l.i) l.i l.end l.entries ≡ entries_from l.s l.k l.plan l.k 0 (12 + 16 * l.k) no_entries)
-    × (l.i ≤ l.k)
     × (l.end ≤ length l.s)
     × (length l.entries ≡ 8)
-
-abbrev pub decreases-loop-i : goal.decreases-loop-i
-decreases-loop-i l = l.k - l.i

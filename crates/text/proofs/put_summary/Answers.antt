@@ -4,11 +4,11 @@ use Rattle.text.specs.Text.{summary_text}
 use Rattle.areas.specs.Written.{laid_then}
 use Rattle.text.proofs.put_summary.Goals as goal
 
-pub returns : goal.returns
+pub returns-clause-laid : goal.returns-clause-laid
 unfolding summary_text
-returns c =
-    let a = laid_then (omega arith) c.put_stopped-a.ensures.laid c.put_count-b.ensures.laid in
-    let b = laid_then (omega arith) a c.put_count-c.ensures.laid in
-    let d = laid_then (omega arith) b c.put_count-d.ensures.laid in
-    let e = laid_then (omega arith) d c.put_count-e.ensures.laid in
-    record { laid = laid_then (omega arith) e c.put_byte.ensures; upper_bound = omega (arith, c.put_byte.ensures.past) }
+returns-clause-laid c =
+    let two = laid_then (omega arith) c.put_stopped-at.ensures.laid c.put_count-at.ensures.laid in
+    let three = laid_then (omega arith) two c.put_count-at-2.ensures.laid in
+    let four = laid_then (omega arith) three c.put_count-at-3.ensures.laid in
+    let five = laid_then (omega arith) four c.put_count-at-4.ensures.laid in
+    laid_then (omega arith) five c.put_bytes.ensures
