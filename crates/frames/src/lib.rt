@@ -5,17 +5,12 @@
 
 ghost use Rattle.std.specs.Prelude.{◌≤◌, length};
 
-use arrayvec::ArrayVec;
-use std::fmt::Display;
-use std::io::Write;
+use std::fmt::{self, Display, Write};
 
 // The numbers that the system gives standard input and output.
 const STDIN_FILENO: i32 = 0;
 
 const STDOUT_FILENO: i32 = 1;
-
-// A line is shorter: a label of 200 bytes, 20,000 marks of at most 4 bytes and 300 numbers of at most 20.
-const MOST_LINE: usize = 131072;
 
 // The header of the next frame, or none where the input ends before it is whole.
 pub fn header<const N: usize>() -> Option<[u8; N]> {
@@ -57,19 +52,55 @@ pub fn print(bytes: &[u8]) {
     io::write_all(STDOUT_FILENO, bytes);
 }
 
-// Lays the line of a case: its label, which is any bytes, and its answer.
-fn lay_line<T: Display + Drop>(
-    line: &mut ArrayVec<u8, MOST_LINE>,
-    label: &[u8],
-    answer: T,
-) -> std::io::Result<()> {
-    line.write_all(label)?;
-    writeln!(line, ": {answer}")
+// Standard output as text goes there piece by piece, each in a write of its own.
+#[derive(Clone, Copy)]
+pub struct Pieces;
+
+impl fmt::Write for Pieces {
+    fn write_str(&mut self, text: &str) -> fmt::Result {
+        print(text.as_bytes());
+        Ok(())
+    }
 }
 
-// The line of a case, in one write. It has room for each line of these programs, so that laying it does not fail.
-pub fn print_line<T: Display + Drop>(label: &[u8], answer: T) {
-    let mut line = ArrayVec::new();
-    let _ = lay_line(&mut line, label, answer);
-    print(&line);
+// A line as far as it is laid, at the front of room that is lent for it.
+#[derive(Drop)]
+struct Line<'a> {
+    room: &'a mut [u8],
+    filled: usize,
+    ghost within: { filled ≤ length room.now },
+}
+
+impl Line<'_> {
+    // Lays bytes after what is laid, and says whether there was room for them.
+    fn put(&mut self, bytes: &[u8]) -> bool {
+        let free = &mut self.room[self.filled..];
+        if free.len() < bytes.len() {
+            return false;
+        }
+        free[..bytes.len()].copy_from_slice(bytes);
+        self.filled += bytes.len();
+        true
+    }
+}
+
+impl fmt::Write for Line<'_> {
+    fn write_str(&mut self, text: &str) -> fmt::Result {
+        if self.put(text.as_bytes()) {
+            Ok(())
+        } else {
+            Err(fmt::Error)
+        }
+    }
+}
+
+// A line, in one write: bytes as they are, and text. It is laid in room that is lent, at its front, and is cut off
+// where the room ends; these programs lend room for each line of theirs.
+pub fn print_line<T: Display + Drop>(room: &mut [u8], start: &[u8], text: T) {
+    let mut line = Line { room, filled: 0 };
+    if line.put(start) {
+        let _ = writeln!(line, "{text}");
+    }
+    let Line { room, filled } = line;
+    print(&room[..filled]);
 }

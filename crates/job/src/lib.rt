@@ -36,7 +36,8 @@ fn plan_masks(s: &[u8], plan: [u8; 8]) -> [u32; 8]
     plan.map(|table| table_mask(s, table))
 }
 
-// The job, or the first of refusals 1 to 11 that applies.
+// The job, or the first of refusals 1 to 11 that applies. It is inlined, as `layout::read_contents` says.
+#[inline(always)]
 pub fn read(file: &[u8]) -> Result<Job, Refused>
     ensures { result ≡ read_answer file.now }
 {

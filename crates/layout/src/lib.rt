@@ -269,7 +269,9 @@ fn read_entries(s: &[u8], k: usize, plan: [u8; 8]) -> Result<Contents, Refused>
     finish(s.len(), end, k, plan, entries)
 }
 
-// The contents of a file, or the first of refusals 1 to 10 that applies.
+// The contents of a file, or the first of refusals 1 to 10 that applies. It is inlined into `job::read`, and that
+// into its callers: each as a call of its own would write the answer once more.
+#[inline(always)]
 pub fn read_contents(s: &[u8]) -> Result<Contents, Refused>
     ensures { result ≡ contents_of s.now }
 {

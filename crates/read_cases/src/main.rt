@@ -3,7 +3,9 @@
 // and lowest first, then the label, at most 200 bytes, then the file, at most 70,000.
 #![tactic(auto)]
 
+use frames::Pieces;
 use show::Reading;
+use std::fmt::Write;
 
 const MOST_LABEL: usize = 200;
 
@@ -27,13 +29,26 @@ fn next_lengths() -> Option<Lengths> {
     Some(Lengths { label, file })
 }
 
-// Answers the frame whose label and file come next.
-fn answer(lengths: Lengths) {
+// Prints the label, whose bytes come next.
+fn print_label(length: usize) {
     let mut label = [0; MOST_LABEL];
+    frames::print(frames::take(&mut label, length));
+    frames::print(b": ");
+}
+
+// Prints what reading the file answers, whose bytes come next.
+fn print_answer(length: usize) {
     let mut file = [0; MOST_FILE];
-    let label = frames::take(&mut label, lengths.label);
-    let file = frames::take(&mut file, lengths.file);
-    frames::print_line(label, Reading(job::read(file)));
+    let file = frames::take(&mut file, length);
+    let _ = write!(Pieces, "{}", Reading(job::read(file)));
+}
+
+// Answers the frame whose label and file come next. The label goes out before the file is read, and what reading
+// answers goes out piece by piece.
+fn answer(lengths: Lengths) {
+    print_label(lengths.label);
+    print_answer(lengths.file);
+    frames::print(b"\n");
 }
 
 fn main() {

@@ -5,7 +5,7 @@
 // state's and the record's numbers, the budget, and the lengths of the area and the value area. Then come
 // the label, the file, the mark area, the state's numbers and the record's. The area and the value area
 // are lent with one number in every place, so that a place that was written shows. Each line goes out in
-// one write.
+// one write, laid in room that a case has for its lines.
 #![tactic(auto)]
 
 mod shown;
@@ -29,6 +29,9 @@ const MOST_NUMBERS: usize = 20;
 const MOST_AREA: usize = 200;
 
 const MOST_VALUES: usize = 64;
+
+// A line is shorter: a label, 20,000 marks of at most 4 bytes and 300 numbers of at most 20.
+const MOST_LINE: usize = 131072;
 
 const MOST_CALLS: u32 = 200;
 
@@ -111,6 +114,7 @@ fn next_header() -> Option<Header> {
 // input ends first or the list has no more room, and lends those that came.
 fn take_numbers(numbers: &mut [u32], count: usize) -> &mut [u32]
     requires { count ≤ 20 }
+    ensures { length result.now ≤ length numbers.old }
 {
     let mut bytes = [0; 4 * MOST_NUMBERS];
     let words = frames::take(&mut bytes, 4 * count).chunks_exact(4);
@@ -123,37 +127,36 @@ fn take_numbers(numbers: &mut [u32], count: usize) -> &mut [u32]
 }
 
 // The line of beginning.
-fn print_begun(label: &[u8], begun: Result<State, Refused>, marks: &[u8]) {
+fn print_begun(label: &[u8], begun: Result<State, Refused>, marks: &[u8], line: &mut [u8]) {
     let answer = Answer(begun.map(Numbers));
     let marks = List("marks", marks);
-    frames::print_line(label, format_args!("begin {answer} {marks}"));
+    frames::print_line(line, label, format_args!(": begin {answer} {marks}"));
 }
 
 // The line of a run call.
-fn print_ran(label: &[u8], ran: Result<Ran, Refused>, marks: &[u8], area: &[u32]) {
+fn print_ran(label: &[u8], ran: Result<Ran, Refused>, marks: &[u8], area: &[u32], line: &mut [u8]) {
     let answer = Answer(ran.map(Stopped));
     let marks = List("marks", marks);
     let area = List("area", area);
-    frames::print_line(label, format_args!("run {answer} {marks} {area}"));
+    frames::print_line(line, label, format_args!(": run {answer} {marks} {area}"));
 }
 
 // The line of joining values.
-fn print_joined(label: &[u8], joined: Result<usize, Refused>, values: &[i32]) {
+fn print_joined(label: &[u8], joined: Result<usize, Refused>, values: &[i32], line: &mut [u8]) {
     let answer = Answer(joined);
     let values = List("values", values);
-    frames::print_line(label, format_args!("values {answer} {values}"));
+    frames::print_line(line, label, format_args!(": values {answer} {values}"));
 }
 
 // The line of numbers that are no state.
-fn print_no_state(label: &[u8], refused: Refused) {
-    frames::print_line(
-        label,
-        format_args!("run no state {}", NumberAndPlace(refused)),
-    );
+fn print_no_state(label: &[u8], refused: Refused, line: &mut [u8]) {
+    let refused = NumberAndPlace(refused);
+    frames::print_line(line, label, format_args!(": run no state {refused}"));
 }
 
 // A case: what its frame holds. Of the header, its calls take the budget and the sizes of the lent areas. The
-// marks have a lifetime of their own, since each call lends them anew while the rest stays lent.
+// marks have a lifetime of their own, since each call lends them anew while the rest stays lent. The room for its
+// lines goes beside it, since marks and line are lent together.
 #[derive(Drop)]
 struct Case<'a, 'm> {
     header: Header,
@@ -166,43 +169,43 @@ struct Case<'a, 'm> {
 
 impl Case<'_, '_> {
     // Begins, and prints the line of that.
-    fn begin(&mut self) -> Result<State, Refused> {
+    fn begin(&mut self, line: &mut [u8]) -> Result<State, Refused> {
         let begun = runs::begin(self.file, self.marks);
-        print_begun(self.label, begun, self.marks);
+        print_begun(self.label, begun, self.marks, line);
         begun
     }
 
     // One run call with an untouched area, and its line.
-    fn call(&mut self, state: State) -> Result<Ran, Refused> {
+    fn call(&mut self, state: State, line: &mut [u8]) -> Result<Ran, Refused> {
         let mut area = [UNTOUCHED; MOST_AREA];
         let area = &mut area[..self.header.area];
         let ran = runs::run(self.file, state, self.marks, self.header.budget, area);
-        print_ran(self.label, ran, self.marks, area);
+        print_ran(self.label, ran, self.marks, area, line);
         ran
     }
 
     // The run call of a case, unless its numbers are no state.
-    fn run(&mut self) {
+    fn run(&mut self, line: &mut [u8]) {
         match flat::state_of(self.state) {
             Ok(state) => {
-                let _ = self.call(state);
+                let _ = self.call(state, line);
             }
-            Err(refused) => print_no_state(self.label, refused),
+            Err(refused) => print_no_state(self.label, refused, line),
         }
     }
 
     // Joins the values of a record into an untouched value area, and prints the line of that.
-    fn join(&self) {
+    fn join(&self, line: &mut [u8]) {
         let mut values = [UNTOUCHED_VALUE; MOST_VALUES];
         let values = &mut values[..self.header.values];
         let joined = values::join_values(self.file, self.chosen, values);
-        print_joined(self.label, joined, values);
+        print_joined(self.label, joined, values, line);
     }
 
     // One run call of a walk: the state from which a further one is made, where the run is not over and the
     // call took a step.
-    fn walk_on(&mut self, state: State) -> Option<State> {
-        let Ran { why, state: next } = self.call(state).ok()?;
+    fn walk_on(&mut self, state: State, line: &mut [u8]) -> Option<State> {
+        let Ran { why, state: next } = self.call(state, line).ok()?;
         let is_over = matches!(why, Stop::Ended | Stop::StepLimit);
         if is_over || next.steps == state.steps {
             return None;
@@ -211,12 +214,12 @@ impl Case<'_, '_> {
     }
 
     // Begins, and makes run calls from the fresh state, while a further one is to be made.
-    fn walk(&mut self) {
-        let Ok(mut state) = self.begin() else {
+    fn walk(&mut self, line: &mut [u8]) {
+        let Ok(mut state) = self.begin(line) else {
             return;
         };
         for _ in 0..MOST_CALLS {
-            let Some(next) = self.walk_on(state) else {
+            let Some(next) = self.walk_on(state, line) else {
                 return;
             };
             state = next;
@@ -224,14 +227,14 @@ impl Case<'_, '_> {
     }
 
     // What is asked of the case, with its line or lines.
-    fn answer(&mut self) {
+    fn answer(&mut self, line: &mut [u8]) {
         match self.header.operation {
             Operation::Begin => {
-                let _ = self.begin();
+                let _ = self.begin(line);
             }
-            Operation::Run => self.run(),
-            Operation::Join => self.join(),
-            Operation::Walk => self.walk(),
+            Operation::Run => self.run(line),
+            Operation::Join => self.join(line),
+            Operation::Walk => self.walk(line),
         }
     }
 }
@@ -243,6 +246,7 @@ fn answer(header: Header) {
     let mut marks = [0; MOST_MARKS];
     let mut state = [0; MOST_NUMBERS];
     let mut chosen = [0; MOST_NUMBERS];
+    let mut line = [0; MOST_LINE];
     let mut case = Case {
         header,
         label: frames::take(&mut label, header.label),
@@ -251,7 +255,7 @@ fn answer(header: Header) {
         state: take_numbers(&mut state, header.state),
         chosen: take_numbers(&mut chosen, header.chosen),
     };
-    case.answer();
+    case.answer(&mut line);
 }
 
 fn main() {
